@@ -1,0 +1,5 @@
+pub mod Contents
+mod Copies
+pub mod Spellings
+pub mod Equalities
+pub mod WellFormed
