@@ -1,0 +1,10 @@
+pub mod Orders
+pub mod Lists
+pub mod Halves
+pub mod Values
+pub mod Entries
+pub mod Placed
+pub mod Sets
+pub mod Alters
+pub mod Openings
+pub mod Taken
