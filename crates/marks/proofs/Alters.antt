@@ -3,11 +3,12 @@ use mathlib.Core.Path.{_≡_, refl, sym, _∙_, ap, subst}
 use mathlib.Core.Bool.{Bool, true, false, cond, not}
 use mathlib.Core.Logic.{⊎-elim}
 use mathlib.Core.List.{List, _∷_, _++_}
-use Prim.Native.Nat.{ℕ}
-use lib.ListN.{take, drop}
+use Prim.Native.Nat.{ℕ, _-_}
+use native.Mathlib.Omega.{arith}
+use lib.ListN.{length, take, drop}
 use Rattle.std.specs.Holes.{inserted}
 use Rattle.std.specs.Orderings.{Decides}
-use Rattle.std.proofs.shelf.Lists.{take-append-drop}
+use Rattle.std.proofs.shelf.Lists.{take-append-drop, take-rest}
 use Rattle.std.proofs.shelf.Tests.{cases-bool, both-ways, not-true, not-from-false, false≢true}
 use Rattle.std.specs.declared.option.Option.{Option}
 use Rattle.std.specs.declared.option.Option.the-variants.{Some, None}
@@ -105,6 +106,10 @@ module _ {I N V : Type 0} {names : N → N → Bool} (order : TotalOrder names) 
           (cases-bool (equal w (m .value)))),
     )
 
-  -- a mark put in at a place
-  pub inserted-alters : (ms : List (OpenMark I N V)) (at : ℕ) (m : OpenMark I N V) (b f : Option V) → given names (drop at ms) (m .name) ≡ b → given names (take at ms) (m .name) ≡ f → Decides (altered equal b f (m .value)) (Differ names equal ms (inserted ms at m))
-  inserted-alters ms at m b f eb ef = subst (λ (l : List (OpenMark I N V)). Decides (altered equal b f (m .value)) (Differ names equal l (inserted ms at m))) (take-append-drop at ms) (decided (take at ms) (drop at ms) m b f eb ef)
+  -- a mark put in at a place, by what the parts above and below it give its name, as they are read off the slice
+  pub inserted-alters : (ms : List (OpenMark I N V)) (at : ℕ) (m : OpenMark I N V) (b f : Option V) → given names (take (length ms - at) (drop at ms)) (m .name) ≡ b → given names (take (at - 0) ms) (m .name) ≡ f → Decides (altered equal b f (m .value)) (Differ names equal ms (inserted ms at m))
+  inserted-alters ms at m b f eb ef =
+      let whole : at ≡ at - 0 = omega arith in
+      let above : given names (drop at ms) (m .name) ≡ b = ap (λ (l : List (OpenMark I N V)). given names l (m .name)) (sym (take-rest ms at)) ∙ eb in
+      let below : given names (take at ms) (m .name) ≡ f = ap (λ (k : ℕ). given names (take k ms) (m .name)) whole ∙ ef in
+      subst (λ (l : List (OpenMark I N V)). Decides (altered equal b f (m .value)) (Differ names equal l (inserted ms at m))) (take-append-drop at ms) (decided (take at ms) (drop at ms) m b f above below)

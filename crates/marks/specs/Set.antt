@@ -26,6 +26,7 @@ abbrev pub given : {I N V : Type 0} → (N → N → Bool) → List (OpenMark I 
 given names [] n = None
 given names (m ∷ ms) n = or-else (given names ms n) (under names m n)
 
+-- a mark as an entry: its name and value, without the id
 abbrev pub entry-of : {I N V : Type 0} → OpenMark I N V → Entry N V
 entry-of m = record { name = m .name; value = m .value }
 
