@@ -1,4 +1,6 @@
 //! House files: the check of a file, and the questions that a good one answers.
+#![tactic(auto)]
+
 mod check;
 mod contents;
 mod cut;

@@ -1,4 +1,6 @@
 //! House files on examples: good ones, every cut, every field spoilt, and a file under layers.
+#![tactic(auto)]
+
 #[cfg(test)]
 mod cuts;
 #[cfg(test)]

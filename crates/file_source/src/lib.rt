@@ -1,4 +1,6 @@
 //! The records of a house file, as a source.
+#![tactic(auto)]
+
 ghost use Rattle.std.specs.Prelude.{◌≡◌};
 ghost use Rattle.house.specs.Held.{filed, name_found, value_found, found_by};
 ghost use Rattle.file.specs.Files.{file_bytes};

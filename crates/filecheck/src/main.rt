@@ -1,4 +1,6 @@
 //! Reads a house file from standard input, and prints what it holds or what is wrong with it.
+#![tactic(auto)]
+
 mod contents;
 #[cfg(test)]
 mod tests;

@@ -1,4 +1,6 @@
 //! What ids, names and values of marks are: the interfaces, the document kind and the detector kind.
+#![tactic(auto)]
+
 mod content;
 pub mod detector;
 pub mod document;

@@ -1,4 +1,6 @@
 //! Open marks on examples, for documents and for detectors.
+#![tactic(auto)]
+
 #[cfg(test)]
 mod detector;
 #[cfg(test)]

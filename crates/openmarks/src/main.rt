@@ -1,4 +1,6 @@
 //! Reads mark operations, a line each, and prints the set of open marks after each of them.
+#![tactic(auto)]
+
 mod operation;
 mod report;
 #[cfg(test)]

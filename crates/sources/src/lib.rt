@@ -1,4 +1,6 @@
 //! Sources of records: the interface, the table, and the layers over any source.
+#![tactic(auto)]
+
 pub mod clock;
 pub mod clocked;
 mod covers;
