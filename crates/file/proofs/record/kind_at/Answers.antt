@@ -3,8 +3,8 @@ use Rattle.house.specs.Values.{value_width, values_head, values_count}
 use Rattle.house.proofs.Bounds.{item_within}
 use Rattle.file.proofs.record.kind_at.Goals as goal
 
-pub bounds-bytes-item-place : goal.bounds-bytes-item-place
-bounds-bytes-item-place c =
+pub bounds-bytes-item_place : goal.bounds-bytes-item_place
+bounds-bytes-item_place c =
     let d = c.args.bytes.now in
     let section = c.requires.known.values in
     let within = item_within value_width (values_head d) d c.args.i (values_count d) c.requires.below in

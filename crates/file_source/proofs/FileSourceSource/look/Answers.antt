@@ -6,6 +6,6 @@ pub returns : goal.returns
 returns c =
     let s = c.args.self.now in
     record {
-      answer = shows s.file.bytes.now s.at c.in-Some.first c.from.result c.name.result c.value.result c.is-some.result (sym c.record.ensures ∙ c.in-Some.is) (c.from.ensures, c.name.ensures, c.value.ensures, c.is-some.ensures);
+      answer = shows s.file.bytes.now s.at c.in-Some.first c.from.result c.name.result c.value.result c.is_some.result (sym c.record.ensures ∙ c.in-Some.is) (c.from.ensures, c.name.ensures, c.value.ensures, c.is_some.ensures);
       same = refl;
     }

@@ -9,8 +9,8 @@ returns c =
     let s = c.args.self.now in
     record {
       answer =
-          c.byte-of.ensures
-          ∙ ap (λ t. byte_at (text_of t c.in-ok-first.first.text) c.args.place) c.text.ensures
-          ∙ shows_text s.file.bytes.now s.at c.in-ok-first.first c.args.place (sym c.record.ensures ∙ c.in-ok-first.was);
+          c.byte_of.ensures
+          ∙ ap (λ t. byte_at (text_of t c.in_ok-first.first.text) c.args.place) c.text.ensures
+          ∙ shows_text s.file.bytes.now s.at c.in_ok-first.first c.args.place (sym c.record.ensures ∙ c.in_ok-first.was);
       same = refl;
     }

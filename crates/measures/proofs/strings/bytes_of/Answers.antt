@@ -2,4 +2,4 @@ use Rattle.measures.proofs.Agreement.{agrees}
 use Rattle.measures.proofs.strings.bytes_of.Goals as goal
 
 pub returns : goal.returns
-returns c = (c.as-bytes.ensures.value, (agrees _).1 c.as-bytes.ensures.utf8)
+returns c = (c.as_bytes.ensures.value, (agrees _).1 c.as_bytes.ensures.utf8)

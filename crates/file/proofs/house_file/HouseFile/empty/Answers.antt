@@ -6,5 +6,5 @@ use Rattle.file.proofs.house_file.HouseFile.empty.Goals as goal
 pub unreachable-requires : goal.unreachable-requires
 unreachable-requires c = verdict_either none_held (fields none_held) c.in-Err.field-0 none_good c.in-Err.ensures
 
-pub invariant-of-result : goal.invariant-of-result
-invariant-of-result c = (∣ c.in-Ok.ensures.0 ∣₁, (∣ c.in-Ok.ensures.1 ∣₁, tt))
+pub invariant_of-result : goal.invariant_of-result
+invariant_of-result c = (∣ c.in-Ok.ensures.0 ∣₁, (∣ c.in-Ok.ensures.1 ∣₁, tt))

@@ -12,20 +12,20 @@ returns-then-from-self c =
     let past : names_count d ≤ c.args.i = omega (arith, (known c.args.self.now).names.count) in
     rw (le-ltb _ _ past)
 
-pub item-place-at-requires : goal.item-place-at-requires
-item-place-at-requires c = record { known = (known c.args.self.now).names; below = omega arith }
+pub item_place-at-requires : goal.item_place-at-requires
+item_place-at-requires c = record { known = (known c.args.self.now).names; below = omega arith }
 
-pub name-of-requires : goal.name-of-requires
-name-of-requires c =
+pub name_of-requires : goal.name_of-requires
+name_of-requires c =
     let d = c.args.self.now.bytes.now in
     let k = known c.args.self.now in
     let below : c.args.i < names_count d = omega (arith, k.names.count) in
-    subst (λ p. p + name_width d p ≤ length d) (sym c.item-place-at.ensures) (name_within d k.whole c.args.i below)
+    subst (λ p. p + name_width d p ≤ length d) (sym c.item_place-at.ensures) (name_within d k.whole c.args.i below)
 
 pub returns : goal.returns
 returns c =
     let d = c.args.self.now.bytes.now in
     let below : c.args.i < names_count d = omega (arith, (known c.args.self.now).names.count) in
-    c.name-of.ensures
-    ∙ ap (λ p. text_from (slice d (p + 1) (byte d p))) c.item-place-at.ensures
+    c.name_of.ensures
+    ∙ ap (λ p. text_from (slice d (p + 1) (byte d p))) c.item_place-at.ensures
     ∙ rw (lt-ltb _ _ below)

@@ -2,10 +2,10 @@ use Rattle.std.proofs.Common.{refl}
 use Rattle.house.proofs.Holding.{good_holds}
 use Rattle.file.proofs.house_file.HouseFile.read.Goals as goal
 
-pub invariant-of-self : goal.invariant-of-self
-invariant-of-self c = (∣ c.in-ok-layout.ensures.0 ∣₁, (∣ c.in-ok-layout.ensures.1 ∣₁, tt))
+pub invariant_of-self : goal.invariant_of-self
+invariant_of-self c = (∣ c.in_ok-layout.ensures.0 ∣₁, (∣ c.in_ok-layout.ensures.1 ∣₁, tt))
 
 pub returns : goal.returns
 returns c =
-    let good = c.in-ok-layout.ensures.0 in
+    let good = c.in_ok-layout.ensures.0 in
     record { judged = (good, (refl, good_holds c.args.bytes.now good)); kept = tt }

@@ -24,8 +24,8 @@ overflow-add-self-2 c =
     let below : c.args.i < records_count d = omega (arith, k.records) in
     omega (arith, k.head, record_within d k.whole c.args.i below)
 
-pub record-of-requires : goal.record-of-requires
-record-of-requires c =
+pub record_of-requires : goal.record_of-requires
+record_of-requires c =
     let d = c.args.self.now.bytes.now in
     let k = known c.args.self.now in
     let below : c.args.i < records_count d = omega (arith, k.records) in
@@ -37,4 +37,4 @@ returns c =
     let i = c.args.i in
     let k = known c.args.self.now in
     let below : i < records_count d = omega (arith, k.records) in
-    ap Some (c.record-of.ensures ∙ ap (λ h. record_standing d (h + 4 + 24 * i)) k.head) ∙ rw (lt-ltb _ _ below)
+    ap Some (c.record_of.ensures ∙ ap (λ h. record_standing d (h + 4 + 24 * i)) k.head) ∙ rw (lt-ltb _ _ below)

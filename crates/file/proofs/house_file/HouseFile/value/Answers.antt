@@ -12,16 +12,16 @@ returns-then-from-self c =
     let past : values_count d ≤ c.args.i = omega (arith, (known c.args.self.now).values.count) in
     rw (le-ltb _ _ past)
 
-pub item-place-at-requires : goal.item-place-at-requires
-item-place-at-requires c = record { known = (known c.args.self.now).values; below = omega arith }
+pub item_place-at-requires : goal.item_place-at-requires
+item_place-at-requires c = record { known = (known c.args.self.now).values; below = omega arith }
 
-pub value-of-requires : goal.value-of-requires
-value-of-requires c =
+pub value_of-requires : goal.value_of-requires
+value_of-requires c =
     let d = c.args.self.now.bytes.now in
     let i = c.args.i in
     let k = known c.args.self.now in
     let below : i < values_count d = omega (arith, k.values.count) in
-    let at = sym c.item-place-at.ensures in
+    let at = sym c.item_place-at.ensures in
     record {
       fits = subst (λ p. LengthOf (kind_of (byte d p)) (byte d (p + 2))) at (value_length d i below c.args.self.now.good);
       within = subst (λ p. p + value_width d p ≤ length d) at (value_within d k.whole i below);
@@ -31,4 +31,4 @@ pub returns : goal.returns
 returns c =
     let d = c.args.self.now.bytes.now in
     let below : c.args.i < values_count d = omega (arith, (known c.args.self.now).values.count) in
-    c.value-of.ensures ∙ ap (value_standing d) c.item-place-at.ensures ∙ rw (lt-ltb _ _ below)
+    c.value_of.ensures ∙ ap (value_standing d) c.item_place-at.ensures ∙ rw (lt-ltb _ _ below)

@@ -6,19 +6,19 @@ use Rattle.kinds.specs.declared.refusal.Refusal.TheVariants.{IllFormedText}
 use Rattle.kinds.proofs.Makings.{text_made}
 use Rattle.kinds.proofs.text.ShortStr.new.Goals as goal
 
-pub invariant-of-result : goal.invariant-of-result
-invariant-of-result c =
-    let judged = c.well-formed-2.ensures.grammar.0 c.if-not-well-formed.false in
-    (∣ subst Utf8Octets (sym c.in-ok-short.ensures.content) judged ∣₁, tt)
+pub invariant_of-result : goal.invariant_of-result
+invariant_of-result c =
+    let judged = c.well_formed-2.ensures.grammar.0 c.if-not-well_formed.false in
+    (∣ subst Utf8Octets (sym c.in_ok-short.ensures.content) judged ∣₁, tt)
 
-pub returns-in-err-short : goal.returns-in-err-short
-returns-in-err-short c =
+pub returns-in_err-short : goal.returns-in_err-short
+returns-in_err-short c =
     let bytes = c.args.bytes.now in
-    let told : MatchResult c.from-residual.result (λ s. spelled s ≡ bytes) (λ e. Unfit bytes e) = search rules in
-    record { spells = told; made = text_made bytes c.from-residual.result told }
+    let told : MatchResult c.from_residual.result (λ s. spelled s ≡ bytes) (λ e. Unfit bytes e) = search rules in
+    record { spells = told; made = text_made bytes c.from_residual.result told }
 
-pub returns-then-not-well-formed : goal.returns-then-not-well-formed
-returns-then-not-well-formed c =
+pub returns-then-not-well_formed : goal.returns-then-not-well_formed
+returns-then-not-well_formed c =
     let bytes = c.args.bytes.now in
     let told : Unfit bytes IllFormedText = search rules in
     record { spells = told; made = text_made bytes (Err IllFormedText) told }
@@ -26,4 +26,4 @@ returns-then-not-well-formed c =
 pub returns : goal.returns
 returns c =
     let bytes = c.args.bytes.now in
-    record { spells = c.in-ok-short.ensures.content; made = text_made bytes (Ok _) c.in-ok-short.ensures.content }
+    record { spells = c.in_ok-short.ensures.content; made = text_made bytes (Ok _) c.in_ok-short.ensures.content }

@@ -6,29 +6,29 @@ use Rattle.marks.proofs.Entries.{first, follows}
 use Rattle.marks.proofs.Sets.{entries_set, entries_rise}
 use Rattle.marks.proofs.set.MarkSet.entry.Goals as goal
 
-pub returns-in-err-found : goal.returns-in-err-found
-returns-in-err-found g c =
+pub returns-in_err-found : goal.returns-in_err-found
+returns-in_err-found g c =
     let names = g.N.Name.below in
     let marks = c.args.self.now.marks.now in
-    let none : slice_get (entries names marks) 0 ≡ None = sym (first names (entries names marks)) ∙ sym c.next-entry.ensures ∙ c.in-err-found.was in
-    let value = c.from-residual.ensures ∙ nth_none (entries names marks) 0 c.args.k none (omega arith) in
+    let none : slice_get (entries names marks) 0 ≡ None = sym (first names (entries names marks)) ∙ sym c.next_entry.ensures ∙ c.in_err-found.was in
+    let value = c.from_residual.ensures ∙ nth_none (entries names marks) 0 c.args.k none (omega arith) in
     record { value = value; entry = λ sorted. record { whole = entries names marks; is_set = entries_set g.met.I.Id.ordered g.met.N.Name.ordered marks sorted; here = value } }
 
 pub loop-init : goal.loop-init
 loop-init g c =
     let names = g.N.Name.below in
     let es = entries names c.args.self.now.marks.now in
-    sym (first names es) ∙ sym c.next-entry.ensures ∙ c.in-ok-found.was
+    sym (first names es) ∙ sym c.next_entry.ensures ∙ c.in_ok-found.was
 
-pub returns-in-err-found-2 : goal.returns-in-err-found-2
-returns-in-err-found-2 g c =
+pub returns-in_err-found-2 : goal.returns-in_err-found-2
+returns-in_err-found-2 g c =
     let names = g.N.Name.below in
     let marks = c.args.self.now.marks.now in
     let es = entries names marks in
     let i = c.loop.counter in
     let next = follows g.met.N.Name.ordered es i c.loop.found (entries_rise g.met.I.Id.ordered g.met.N.Name.ordered marks) c.loop.invariant in
-    let none : slice_get es (i + 1) ≡ None = rw add-one (sym next ∙ sym c.next-entry-in-loop.ensures ∙ c.in-err-found-2.was) in
-    let value = c.from-residual-in-err-found-2.ensures ∙ nth_none es (i + 1) c.args.k none (omega arith) in
+    let none : slice_get es (i + 1) ≡ None = rw add-one (sym next ∙ sym c.next_entry-in-loop.ensures ∙ c.in_err-found-2.was) in
+    let value = c.from_residual-in_err-found-2.ensures ∙ nth_none es (i + 1) c.args.k none (omega arith) in
     record { value = value; entry = λ sorted. record { whole = es; is_set = entries_set g.met.I.Id.ordered g.met.N.Name.ordered marks sorted; here = value } }
 
 pub loop-preserved : goal.loop-preserved
@@ -36,7 +36,7 @@ loop-preserved g c =
     let names = g.N.Name.below in
     let marks = c.args.self.now.marks.now in
     let next = follows g.met.N.Name.ordered (entries names marks) c.loop.counter c.loop.found (entries_rise g.met.I.Id.ordered g.met.N.Name.ordered marks) c.loop.invariant in
-    rw add-one (sym next ∙ sym c.next-entry-in-loop.ensures ∙ c.in-ok-found-2.was)
+    rw add-one (sym next ∙ sym c.next_entry-in-loop.ensures ∙ c.in_ok-found-2.was)
 
 pub returns : goal.returns
 returns g c =
