@@ -3,8 +3,9 @@ use Rattle.std.specs.Prelude.{◌≡◌, ℕ, ◌<◌, true, false, List, [], �
 use Rattle.std.specs.declared.cmp.Ordering.TheVariants.{Less, Equal, Greater}
 use Rattle.std.specs.declared.cmp.Ordering.{Ordering}
 use Rattle.std.proofs.Common.{ap, arith}
-use Rattle.std.specs.Ordering.{MatchOrdering}
-use Rattle.std.specs.Cmp.Lexicographic.{Lex}
+use Rattle.std.specs.Ordering.{MatchOrdering, nat_cmp, ordering_then}
+use Rattle.std.specs.Cmp.{ranked as numbers_ranked}
+use Rattle.std.specs.Cmp.Lexicographic.{slice_cmp}
 use Rattle.std.proofs.lemmas.Bool.Decides.{nat_tests}
 use denote.Struct.Record.{values_one}
 use Rattle.kinds.specs.declared.text.ShortStr.{ShortStr}
@@ -38,14 +39,18 @@ past_equal x y xs ys Less p h = grind (arith, nat_tests)
 past_equal x y xs ys Equal p h = cc
 past_equal x y xs ys Greater p h = grind (arith, nat_tests)
 
+-- The first bytes decide, unless they are equal.
+firsts_decide : (x y : ℕ) (xs ys : List ℕ) (k r : Ordering) → MatchOrdering k (x < y) (x ≡ y) (y < x) → MatchOrdering r (bytes_below xs ys ≡ true) (xs ≡ ys) (bytes_below ys xs ≡ true) → MatchOrdering (ordering_then k r) (bytes_below (x ∷ xs) (y ∷ ys) ≡ true) (x ∷ xs ≡ y ∷ ys) (bytes_below (y ∷ ys) (x ∷ xs) ≡ true)
+firsts_decide x y xs ys Less r l h = grind (arith, nat_tests)
+firsts_decide x y xs ys Equal r p h = past_equal x y xs ys r p h
+firsts_decide x y xs ys Greater r l h = grind (arith, nat_tests)
+
 -- What `cmp` answers of two lists of bytes.
-pub ranked : (xs ys : List ℕ) (r : Ordering) → Lex (λ a b k. MatchOrdering k (a < b) (a ≡ b) (b < a)) xs ys r → MatchOrdering r (bytes_below xs ys ≡ true) (xs ≡ ys) (bytes_below ys xs ≡ true)
-ranked [] [] r h = rw h refl
-ranked [] (y ∷ ys) r h = rw h refl
-ranked (x ∷ xs) [] r h = rw h refl
-ranked (x ∷ xs) (y ∷ ys) r (Less, l, e) = rw e (grind (arith, nat_tests))
-ranked (x ∷ xs) (y ∷ ys) r (Equal, p, h) = past_equal x y xs ys r p (ranked xs ys r h)
-ranked (x ∷ xs) (y ∷ ys) r (Greater, l, e) = rw e (grind (arith, nat_tests))
+pub ranked : (xs ys : List ℕ) → MatchOrdering (slice_cmp nat_cmp xs ys) (bytes_below xs ys ≡ true) (xs ≡ ys) (bytes_below ys xs ≡ true)
+ranked [] [] = refl
+ranked [] (y ∷ ys) = refl
+ranked (x ∷ xs) [] = refl
+ranked (x ∷ xs) (y ∷ ys) = firsts_decide x y xs ys (nat_cmp x y) (slice_cmp nat_cmp xs ys) (numbers_ranked x y (nat_cmp x y) refl) (ranked xs ys)
 
 -- Texts of the same bytes are the same text.
 pub same_text : (a b : ShortStr) → spelled a ≡ spelled b → a ≡ b
@@ -57,5 +62,5 @@ of_names a b Equal h = same_text a b h
 of_names a b Greater h = h
 
 -- The same of names, whose bytes were compared.
-pub ranked_names : (a b : ShortStr) (xs ys : List ℕ) (r : Ordering) → xs ≡ spelled a → ys ≡ spelled b → Lex (λ m n k. MatchOrdering k (m < n) (m ≡ n) (n < m)) xs ys r → MatchOrdering r (name_below a b ≡ true) (a ≡ b) (name_below b a ≡ true)
-ranked_names a b xs ys r p q h = of_names a b r (ranked (spelled a) (spelled b) r (rw (← p, ← q) h))
+pub ranked_names : (a b : ShortStr) (xs ys : List ℕ) (r : Ordering) → xs ≡ spelled a → ys ≡ spelled b → r ≡ slice_cmp nat_cmp xs ys → MatchOrdering r (name_below a b ≡ true) (a ≡ b) (name_below b a ≡ true)
+ranked_names a b xs ys r p q h = of_names a b r (rw (h, p, q) (ranked (spelled a) (spelled b)))

@@ -1,12 +1,13 @@
 //! Short bytes made and read.
-ghost use Rattle.std.specs.Prelude.{◌≡◌, ◌<◌, length, Decides, MatchResult};
+ghost use Rattle.std.specs.Prelude.{◌≡◌, ◌<◌, length, nat_eq, Decides, MatchResult};
 ghost use Rattle.kinds.specs.Contents.{content};
 ghost use Rattle.kinds.specs.Making.{short_from};
 ghost use Rattle.kinds.specs.declared.refusal.Refusal.TheVariants.{TooLong};
 ghost use Rattle.std.specs.Result.{result_ok};
 ghost use Rattle.std.specs.Cmp.Rules.{comparing};
-ghost use Rattle.std.proofs.Common.{rules, arith};
-ghost use Rattle.std.specs.Cmp as Keys;
+ghost use Rattle.std.specs.Ordering.{on};
+ghost use Rattle.std.specs.Cmp.Lexicographic.{pointwise};
+ghost use Rattle.std.proofs.Common.{rules};
 
 use crate::refusal::Refusal;
 use crate::short::ShortBytes;
@@ -40,15 +41,18 @@ impl ShortBytes {
 }
 
 impl PartialEq for ShortBytes {
-    ghost equals = { λ a b r. Decides r (a ≡ b) };
+    ghost eq = { on content (pointwise nat_eq) };
 
-    ghost laws = { Keys.partial_equiv_from_equiv (first_of (Prim.search (comparing, rules), Prim.grind (arith, Self.row.coded.inj))) };
+    ghost laws = { Prim.search (comparing, rules) };
 
-    fn eq(&self, other: &ShortBytes) -> bool {
+    fn eq(&self, other: &ShortBytes) -> bool
+        ensures gives { result ≡ on content (pointwise nat_eq) self.now other.now }
+        ensures decides { Decides result (self.now ≡ other.now) }
+    {
         self.bytes() == other.bytes()
     }
 }
 
 impl Eq for ShortBytes {
-    ghost laws = { first_of (Prim.search (comparing, rules), Prim.grind (arith, Self.row.coded.inj)) };
+    ghost laws = { Prim.search (comparing, rules) };
 }

@@ -1,12 +1,13 @@
 //! Short texts made, read and ordered: the names of the document kind.
-ghost use Rattle.std.specs.Prelude.{◌≡◌, Decides, MatchResult};
+ghost use Rattle.std.specs.Prelude.{◌≡◌, nat_eq, Decides, MatchResult};
 ghost use Rattle.kinds.specs.Making.{text_from};
 ghost use Rattle.kinds.specs.Names.{spelled, name_below, Unfit};
 ghost use Rattle.measures.specs.Rfc3629.{Utf8Octets};
 ghost use Rattle.std.specs.Result.{result_ok};
 ghost use Rattle.std.specs.Cmp.Rules.{comparing};
-ghost use Rattle.std.proofs.Common.{rules, arith};
-ghost use Rattle.std.specs.Cmp as Keys;
+ghost use Rattle.std.specs.Ordering.{on};
+ghost use Rattle.std.specs.Cmp.Lexicographic.{pointwise};
+ghost use Rattle.std.proofs.Common.{rules};
 ghost use Rattle.kinds.specs.Spellings.{not_below_itself, below_passes_on, one_where_none_below, same_text};
 
 use crate::interfaces::Name;
@@ -47,17 +48,20 @@ impl ShortStr {
 }
 
 impl PartialEq for ShortStr {
-    ghost equals = { λ a b r. Decides r (a ≡ b) };
+    ghost eq = { on spelled (pointwise nat_eq) };
 
-    ghost laws = { Keys.partial_equiv_from_equiv (first_of (Prim.search (comparing, rules), Prim.grind (arith, Self.row.coded.inj))) };
+    ghost laws = { Prim.search (comparing, rules) };
 
-    fn eq(&self, other: &ShortStr) -> bool {
+    fn eq(&self, other: &ShortStr) -> bool
+        ensures gives { result ≡ on spelled (pointwise nat_eq) self.now other.now }
+        ensures decides { Decides result (self.now ≡ other.now) }
+    {
         self.short == other.short
     }
 }
 
 impl Eq for ShortStr {
-    ghost laws = { first_of (Prim.search (comparing, rules), Prim.grind (arith, Self.row.coded.inj)) };
+    ghost laws = { Prim.search (comparing, rules) };
 }
 
 impl Name for ShortStr {

@@ -6,4 +6,8 @@ use Rattle.kinds.proofs.name.ShortStrPartialEq.eq.Goals as goal
 
 pub returns : goal.returns
 returns c =
-    (λ yes. same_text c.args.self.now c.args.other.now (ap content (c.eq.ensures.0 yes)), λ same. c.eq.ensures.1 (ap (λ s. s.short) same))
+    let told = c.eq.ensures.decides in
+    record {
+      gives = c.eq.ensures.gives;
+      decides = (λ yes. same_text c.args.self.now c.args.other.now (ap content (told.0 yes)), λ same. told.1 (ap (λ s. s.short) same));
+    }

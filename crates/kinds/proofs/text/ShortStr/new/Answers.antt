@@ -9,7 +9,7 @@ use Rattle.kinds.proofs.text.ShortStr.new.Goals as goal
 pub invariant_of-result : goal.invariant_of-result
 invariant_of-result c =
     let judged = c.well_formed-2.ensures.grammar.0 c.if-not-well_formed.false in
-    (∣ subst Utf8Octets (sym c.in_ok-short.ensures.content) judged ∣₁, tt)
+    record { well = ∣ subst Utf8Octets (sym c.in_ok-short.ensures.content) judged ∣₁ }
 
 pub returns-in_err-short : goal.returns-in_err-short
 returns-in_err-short c =

@@ -7,7 +7,7 @@ use Rattle.kinds.proofs.value.ScalarValue.is_bytes.Goals as goal
 
 pub returns-in-Bytes : goal.returns-in-Bytes
 returns-in-Bytes c =
-    let says = c.eq.ensures in
+    let says = c.eq.ensures.decides in
     let test = content_test _ _ _ says in
     record {
       equal = test ∙ ap (value_equal (Bytes c.args.wanted)) (sym c.in-Bytes.is);

@@ -7,7 +7,7 @@ use Rattle.kinds.proofs.value.ScalarValue.is_str.Goals as goal
 
 pub returns-in-Str : goal.returns-in-Str
 returns-in-Str c =
-    let says = c.eq.ensures in
+    let says = c.eq.ensures.decides in
     let test = spelling_test _ _ _ says in
     record {
       equal = test ∙ ap (value_equal (Str c.args.wanted)) (sym c.in-Str.is);

@@ -7,7 +7,7 @@ use Rattle.kinds.proofs.value.ScalarValue.is_unknown.Goals as goal
 
 pub returns-then-code-type_code : goal.returns-then-code-type_code
 returns-then-code-type_code c =
-    let says = c.eq.ensures in
+    let says = c.eq.ensures.decides in
     let test = unknown_test _ _ _ _ _ c.if-code-type_code.true says in
     record {
       equal = test ∙ ap (value_equal (Unknown c.args.code c.args.wanted)) (sym c.in-Unknown.is);
