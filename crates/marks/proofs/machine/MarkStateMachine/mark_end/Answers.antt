@@ -11,7 +11,7 @@ returns-in_default-place_of g c =
     let marks = opened c.args.self.now in
     record {
       places = refl;
-      ends = λ sorted. subst (λ (i : Option g.row.I.Denot). Ends g.I.Id.below g.N.Name.below g.row.V-Value.equal i marks (Ok false) marks) c.in-Some.ensures
+      ends = λ sorted. subst (λ (i : Option g.row.I.Denot). Ends g.I.Id.below g.N.Name.below g.V.Value.equal i marks (Ok false) marks) c.in-Some.ensures
           (ended_none g.met.I.Id.ordered g.met.N.Name.ordered g.met.V.Value.equality marks c.in_default-place_of.field-0 c.in-Some.begun sorted (c.in_default-place_of.ensures.found sorted));
     }
 
@@ -28,6 +28,6 @@ returns g c =
     let out = c.in-Some-remove.ensures.removes in
     record {
       places = c.remove.ensures.size;
-      ends = λ sorted. subst (λ (i : Option g.row.I.Denot). Ends g.I.Id.below g.N.Name.below g.row.V-Value.equal i marks (Ok c.altered_by.result) rest) c.in-Some.ensures
+      ends = λ sorted. subst (λ (i : Option g.row.I.Denot). Ends g.I.Id.below g.N.Name.below g.V.Value.equal i marks (Ok c.altered_by.result) rest) c.in-Some.ensures
           (ended_here g.met.I.Id.ordered g.met.N.Name.ordered g.met.V.Value.equality marks rest c.in-Ok.at c.in-Some.begun c.in-Some-remove.mark c.altered_by.result sorted (c.in-Ok.ensures.found sorted) out.0 out.1 out.2 c.altered_by.ensures);
     }
