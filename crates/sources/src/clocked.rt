@@ -20,16 +20,16 @@ pub struct Clocked<S> {
 impl<S: Source> Clocked<S> {
     /// The records below that this clock covers.
     pub fn new(below: S, clock: Clock) -> Clocked<S>
-        ensures { clocked_means S.I.Id.actor S.I.Id.counter means result ≡ clocked S.I.Id.actor S.I.Id.counter (clock_numbers clock) (means below) }
+        ensures { clocked_means S.I.Id.actor S.I.Id.counter S.means result ≡ clocked S.I.Id.actor S.I.Id.counter (clock_numbers clock) (S.means below) }
     {
         Clocked { below, clock }
     }
 
     /// Passes the records that the clock does not cover, and shows what is first then.
     fn settle(&mut self) -> Result<Option<Record<S::I, S::N, S::V>>, Fault>
-        ensures answer { result ≡ first (clocked_means S.I.Id.actor S.I.Id.counter means self.old).records (clocked_means S.I.Id.actor S.I.Id.counter means self.old).ending }
-        ensures same { clocked_means S.I.Id.actor S.I.Id.counter means self.new ≡ clocked_means S.I.Id.actor S.I.Id.counter means self.old }
-        ensures settled { clocked_settled S.I.Id.actor S.I.Id.counter means self.new ≡ true }
+        ensures answer { result ≡ first (clocked_means S.I.Id.actor S.I.Id.counter S.means self.old).records (clocked_means S.I.Id.actor S.I.Id.counter S.means self.old).ending }
+        ensures same { clocked_means S.I.Id.actor S.I.Id.counter S.means self.new ≡ clocked_means S.I.Id.actor S.I.Id.counter S.means self.old }
+        ensures settled { clocked_settled S.I.Id.actor S.I.Id.counter S.means self.new ≡ true }
     {
         while let Some(record) = self.below.look()? {
             match self.clock.covers(record.id.actor(), record.id.counter()) {
@@ -50,9 +50,9 @@ impl<S: Source> Clocked<S> {
 
     /// Passes the records that the clock does not cover, and tells whether one is left that it does.
     fn ready(&mut self) -> bool
-        ensures answer { result ≡ nonempty (clocked_means S.I.Id.actor S.I.Id.counter means self.old).records }
-        ensures same { clocked_means S.I.Id.actor S.I.Id.counter means self.new ≡ clocked_means S.I.Id.actor S.I.Id.counter means self.old }
-        ensures settled { clocked_settled S.I.Id.actor S.I.Id.counter means self.new ≡ true }
+        ensures answer { result ≡ nonempty (clocked_means S.I.Id.actor S.I.Id.counter S.means self.old).records }
+        ensures same { clocked_means S.I.Id.actor S.I.Id.counter S.means self.new ≡ clocked_means S.I.Id.actor S.I.Id.counter S.means self.old }
+        ensures settled { clocked_settled S.I.Id.actor S.I.Id.counter S.means self.new ≡ true }
     {
         match self.settle() {
             Ok(Some(_)) => true,

@@ -17,7 +17,7 @@ pub struct Window<S> {
 impl<S: Source> Window<S> {
     /// The records below from `from` up to, but without, `to`.
     pub fn new(below: S, from: u64, to: u64) -> Window<S>
-        ensures { window_means means result ≡ window from to (means below) }
+        ensures { window_means S.means result ≡ window from to (S.means below) }
     {
         let skip = from.min(to);
         Window {
@@ -29,8 +29,8 @@ impl<S: Source> Window<S> {
 
     /// Passes the records before the window.
     fn settle(&mut self)
-        ensures same { window_means means self.new ≡ window_means means self.old }
-        ensures settled { Settled means self.new }
+        ensures same { window_means S.means self.new ≡ window_means S.means self.old }
+        ensures settled { Settled S.means self.new }
     {
         while self.skip > 0 && self.below.more() {
             self.below.step();
