@@ -11,9 +11,9 @@ check-requires g c = c.loop-i.invariant.1
 pub returns-in_err-at : goal.returns-in_err-at
 returns-in_err-at g c =
     let d = c.args.bytes.now in
-    let width = g.T-as-Item.width in
-    let fields = g.T-as-Item.fields in
-    let head = g.T-as-Item.head d in
+    let width = g.T.Item.width in
+    let fields = g.T.Item.fields in
+    let head = g.T.Item.head d in
     let i = c.loop-i.i in
     let e = c.in_err-at.field-0.0 in
     let here = subst (λ p. FirstBad d (fields d p) e) c.loop-i.invariant.0 c.in_err-at.ensures in
@@ -25,9 +25,9 @@ returns-in_err-at g c =
 pub loop-i-preserved : goal.loop-i-preserved
 loop-i-preserved g c =
     let d = c.args.bytes.now in
-    let width = g.T-as-Item.width in
-    let fields = g.T-as-Item.fields in
-    let head = g.T-as-Item.head d in
+    let width = g.T.Item.width in
+    let fields = g.T.Item.fields in
+    let head = g.T.Item.head d in
     let i = c.loop-i.i in
     let at = c.loop-i.invariant.0 in
     let checked = c.in_ok-at.ensures in

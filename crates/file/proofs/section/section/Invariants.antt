@@ -7,8 +7,8 @@ use Rattle.file.proofs.section.section.Given as goal
 -- the place is that of item i, the items before it are good, and their places are in the index
 abbrev pub invariant-loop-i : goal.invariant-loop-i
 invariant-loop-i g l =
-    (l.at ≡ item_place g.T-as-Item.width (g.T-as-Item.head l.bytes) l.bytes l.i)
+    (l.at ≡ item_place g.T.Item.width (g.T.Item.head l.bytes) l.bytes l.i)
     × (l.at ≤ length l.bytes)
-    × (l.count ≡ le32 l.bytes (g.T-as-Item.head l.bytes))
-    × AllGood l.bytes (each (item_row g.T-as-Item.fields g.T-as-Item.width (g.T-as-Item.head l.bytes) l.bytes) l.i)
-    × Indexed (item_place g.T-as-Item.width (g.T-as-Item.head l.bytes) l.bytes) l.i l.index
+    × (l.count ≡ le32 l.bytes (g.T.Item.head l.bytes))
+    × AllGood l.bytes (each (item_row g.T.Item.fields g.T.Item.width (g.T.Item.head l.bytes) l.bytes) l.i)
+    × Indexed (item_place g.T.Item.width (g.T.Item.head l.bytes) l.bytes) l.i l.index

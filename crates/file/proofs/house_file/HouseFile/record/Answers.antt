@@ -10,15 +10,15 @@ returns-then-i-self c =
     let past : records_count c.args.self.now.bytes.now ≤ c.args.i = omega (arith, (known c.args.self.now).records) in
     rw (le-ltb _ _ past)
 
-pub overflow-add-self : goal.overflow-add-self
-overflow-add-self c =
+pub overflow_add-self : goal.overflow_add-self
+overflow_add-self c =
     let d = c.args.self.now.bytes.now in
     let k = known c.args.self.now in
     let below : c.args.i < records_count d = omega (arith, k.records) in
     omega (arith, k.head, record_within d k.whole c.args.i below)
 
-pub overflow-add-self-2 : goal.overflow-add-self-2
-overflow-add-self-2 c =
+pub overflow_add-self-2 : goal.overflow_add-self-2
+overflow_add-self-2 c =
     let d = c.args.self.now.bytes.now in
     let k = known c.args.self.now in
     let below : c.args.i < records_count d = omega (arith, k.records) in

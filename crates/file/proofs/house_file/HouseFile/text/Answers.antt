@@ -6,8 +6,8 @@ use Rattle.file.proofs.Tails.{behind_all}
 use Rattle.file.proofs.Had.{known}
 use Rattle.file.proofs.house_file.HouseFile.text.Goals as goal
 
-pub overflow-add-self : goal.overflow-add-self
-overflow-add-self c = let k = known c.args.self.now in omega (arith, k.text, (counts_within c.args.self.now.bytes.now k.whole).2)
+pub overflow_add-self : goal.overflow_add-self
+overflow_add-self c = let k = known c.args.self.now in omega (arith, k.text, (counts_within c.args.self.now.bytes.now k.whole).2)
 
 pub tail-requires : goal.tail-requires
 tail-requires c = let k = known c.args.self.now in omega (arith, k.text, (counts_within c.args.self.now.bytes.now k.whole).2)
