@@ -50,7 +50,7 @@ fn what_it_holds(rt: HostRuntime) -> Result<(), Fail> {
     };
     assert!(rt; value.same(&ScalarValue::Boolean(true)));
     assert!(rt; matches!(file.value(1), None));
-    assert!(rt; file.text() == b"00");
+    assert!(rt; file.text() == b"00".as_slice());
     Ok(())
 }
 
@@ -84,6 +84,6 @@ fn a_refusal_changes_nothing(rt: HostRuntime) -> Result<(), Fail> {
     file.read(&SMALL)?;
     assert!(rt; file.read(&[1, 0, 0, 0, 33]).is_err());
     assert_eq!(rt; file.records(), 3);
-    assert!(rt; file.text() == b"00");
+    assert!(rt; file.text() == b"00".as_slice());
     Ok(())
 }

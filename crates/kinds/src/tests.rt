@@ -61,7 +61,7 @@ fn detectors(rt: HostRuntime) {
 #[test]
 fn short_bytes(rt: HostRuntime) -> Result<(), Fail> {
     assert_eq!(rt; ShortBytes::new(&[])?.bytes().len(), 0);
-    assert_eq!(rt; ShortBytes::new(&[255; 32])?.bytes(), &[255; 32]);
+    assert_eq!(rt; ShortBytes::new(&[255; 32])?.bytes(), [255; 32].as_slice());
     assert!(rt; ShortBytes::new(&[1; 33]) == Err(Refusal::TooLong));
     Ok(())
 }

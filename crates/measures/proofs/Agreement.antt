@@ -2,7 +2,7 @@
 use Rattle.std.proofs.Common.{◌≡◌, ℕ, ◌+◌, ◌-◌, ◌*◌, ◌/◌, ◌<◌, ◌≤◌, true, List, [], ◌∷◌, IsUtf8, sym, refl, ◌∙◌, subst, inl, inr, arith}
 use lib.Utf8.{scalar, scalars, next, encode, encodes, scalar_cases, low_scalar}
 use Rattle.std.specs.Int.{IsInRange}
-use Rattle.std.specs.List.{AllByRecursion as All}
+use Rattle.std.specs.List.{AllByRecursion}
 use Rattle.std.proofs.lemmas.Bool.Decides.{nat_tests}
 use Rattle.std.proofs.lemmas.Bool.{cases_lt, and_parts}
 use Rattle.std.proofs.lemmas.Str.{IsUtf8-nil, IsUtf8-append, IsUtf8-encode, encode_ascii}
@@ -77,7 +77,7 @@ char_utf8 (a ∷ b ∷ c ∷ d ∷ []) u =
     ]
 char_utf8 (a ∷ b ∷ c ∷ d ∷ e ∷ more) u = absurd u
 
-utf8_joined : (cs : List (List ℕ)) → All Utf8Char cs → IsUtf8 (joined cs)
+utf8_joined : (cs : List (List ℕ)) → AllByRecursion Utf8Char cs → IsUtf8 (joined cs)
 utf8_joined [] all = IsUtf8-nil
 utf8_joined (c ∷ cs) all = IsUtf8-append c (joined cs) (char_utf8 c all.0) (utf8_joined cs all.1)
 

@@ -1,7 +1,7 @@
 -- One byte: the state that a judge goes to allows exactly what the grammar allows after that byte. Assumes nothing.
 use Rattle.std.proofs.Common.{◌≡◌, ℕ, Bool, true, false, cond, ◌↔◌, List, [], ◌∷◌, ◌++◌, Some, None, Option, refl, ap, subst, inl, inr, arith}
 use Rattle.std.specs.Int.{IsInRange, is_in_range}
-use Rattle.std.specs.List.{AllByRecursion as All}
+use Rattle.std.specs.List.{AllByRecursion}
 use Rattle.std.proofs.lemmas.Bool.Decides.{nat_tests}
 use Rattle.measures.proofs.Ranges.{inside, within_in}
 use Rattle.measures.proofs.Characters.{char_cons}
@@ -118,7 +118,7 @@ opened : (bs : List ℕ) → Utf8Octets bs → Opened bs
 unfolding Utf8Octets
 opened bs o = subst Opened o.2 (by_chars o.0 o.1)
   where
-    by_chars : (cs : List (List ℕ)) → All Utf8Char cs → Opened (joined cs)
+    by_chars : (cs : List (List ℕ)) → AllByRecursion Utf8Char cs → Opened (joined cs)
     by_chars [] all = tt
     by_chars (c ∷ cs) all = opening c (joined cs) all.0 (cs, all.1, refl)
 

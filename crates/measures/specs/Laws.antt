@@ -2,7 +2,7 @@
 use Rattle.std.specs.Prelude.{◌≡◌, ℕ, ◌+◌, ◌<◌, ◌≤◌, Bool, true, false, cond, ◌⊎◌, List, [], ◌∷◌, ◌++◌, length, nat_le, nat_lt, refl}
 use Rattle.std.proofs.Common.{arith, add_assoc, zero-add, sym, ap, ◌∙◌, inl, inr, length-append, lit<}
 use Rattle.std.specs.Int.{is_in_range}
-use Rattle.std.specs.List.{AllByRecursion as All}
+use Rattle.std.specs.List.{AllByRecursion}
 use Rattle.std.proofs.lemmas.List.{nil_from_length}
 use Rattle.std.proofs.lemmas.Bool.{lt-leb, and_left, and_right}
 use Rattle.measures.specs.Rfc3629.{Utf8Char, Utf8Octets, joined}
@@ -36,7 +36,7 @@ first_of_text : (b : ℕ) (bytes : List ℕ) → Utf8Octets (b ∷ bytes) → Fi
 unfolding Utf8Octets
 first_of_text b bytes o = by_chars o.0 o.1 o.2
   where
-    by_chars : (chars : List (List ℕ)) → All Utf8Char chars → joined chars ≡ b ∷ bytes → First b
+    by_chars : (chars : List (List ℕ)) → AllByRecursion Utf8Char chars → joined chars ≡ b ∷ bytes → First b
     by_chars [] all e = let z : ◌≡◌ {A = ℕ} 0 1 = cc in absurd (omega arith)
     by_chars (char ∷ chars) all e = first_of_char char (joined chars) bytes b all.0 e
 

@@ -1,7 +1,7 @@
 -- Well-formed text: the grammar of RFC 3629, section 4, rule by rule under the names that it has there. Assumes nothing.
 use Rattle.std.specs.Prelude.{◌≡◌, ℕ, ◌⊎◌, ◌↔◌, List, [], ◌∷◌, ◌++◌, IsUtf8}
 use Rattle.std.specs.Int.{IsInRange}
-use Rattle.std.specs.List.{AllByRecursion as All}
+use Rattle.std.specs.List.{AllByRecursion}
 
 -- Utf8Tail = %x80-BF
 abbrev pub Utf8Tail : ℕ → Type 0
@@ -46,7 +46,7 @@ joined (char ∷ chars) = char ++ joined chars
 
 -- Utf8Octets = *( Utf8Char )
 unfoldable pub Utf8Octets : List ℕ → Type 0
-Utf8Octets bytes = (chars : List (List ℕ)) × All Utf8Char chars × (joined chars ≡ bytes)
+Utf8Octets bytes = (chars : List (List ℕ)) × AllByRecursion Utf8Char chars × (joined chars ≡ bytes)
 
 -- What the grammar derives is what a `&str` holds, and the other way round.
 abbrev pub Agrees : Type 0

@@ -178,7 +178,7 @@ fn byte_by_byte(rt: HostRuntime) {
 fn to_and_fro(rt: HostRuntime) {
     assert_eq!(rt;
         bytes_of("A\u{2262}\u{391}."),
-        b"\x41\xE2\x89\xA2\xCE\x91\x2E"
+        b"\x41\xE2\x89\xA2\xCE\x91\x2E".as_slice()
     );
     assert_eq!(rt; text_from(b"\xF0\x9F\x9A\xA6"), Some("\u{1F6A6}"));
     assert_eq!(rt; text_from(b"\xED\xA0\x80"), None);

@@ -129,9 +129,9 @@ fn no_operations(rt: HostRuntime) {
 #[test]
 fn lines(rt: HostRuntime) {
     let (line, rest) = first_line(b"one\n\ntwo");
-    assert!(rt; line == b"one" && rest == b"\ntwo");
+    assert!(rt; line == b"one".as_slice() && rest == b"\ntwo".as_slice());
     let (empty, last) = first_line(rest);
-    assert!(rt; empty.is_empty() && last == b"two");
+    assert!(rt; empty.is_empty() && last == b"two".as_slice());
     let (line, rest) = first_line(last);
-    assert!(rt; line == b"two" && rest.is_empty());
+    assert!(rt; line == b"two".as_slice() && rest.is_empty());
 }

@@ -1,6 +1,6 @@
 -- The clock layer and the window in either order. Assumes nothing.
 use Rattle.std.proofs.Common.{◌≡◌, ℕ, zero, suc, ◌-◌, ◌<◌, ◌≤◌, Bool, true, false, cond, ltb, List, [], ◌∷◌, length, take, drop, Some, None, Ok, Err, Option, Result, sym, refl, ap, ◌∙◌, subst, arith}
-use Rattle.std.specs.List.{AllByRecursion as All}
+use Rattle.std.specs.List.{AllByRecursion}
 use Rattle.std.proofs.ByRecursion.{All-weaker, All-drop}
 use Rattle.std.proofs.lemmas.List.{take_all}
 use Rattle.std.proofs.lemmas.Bool.{lt-ltb, le-ltb}
@@ -20,7 +20,7 @@ meant h rs e = record { height = h; records = rs; ending = e }
 module _ {A : Type 0} (verdict : A → Verdict) where
   -- every record is kept
   abbrev Kept : List A → Type 0
-  Kept = All (λ x. verdict x ≡ keep)
+  Kept = AllByRecursion (λ x. verdict x ≡ keep)
 
   all_records : (l : List A) → Kept l → sifted_records verdict l ≡ l
   all_records [] k = refl
@@ -55,10 +55,10 @@ module _ {A : Type 0} (verdict : A → Verdict) where
 
 module _ {I N V : Type 0} (actor counter : I → ℕ) (numbers : List ℕ) where
   -- what is covered is kept, at every height
-  covered_kept : (h : ℕ) (l : List (Entry I N V)) → All (Covered actor counter numbers) l → Kept (clock_verdict actor counter numbers h) l
+  covered_kept : (h : ℕ) (l : List (Entry I N V)) → AllByRecursion (Covered actor counter numbers) l → Kept (clock_verdict actor counter numbers h) l
   covered_kept h l k = All-weaker (Covered actor counter numbers) (λ x. clock_verdict actor counter numbers h x ≡ keep) (λ x c. ap (verdict_on h x.row) c) l k
 
-  part_records : (h j a b : ℕ) (l : List (Entry I N V)) → All (Covered actor counter numbers) (take b l) → take (b - a) (drop a (sifted_records (clock_verdict actor counter numbers h) l)) ≡ sifted_records (clock_verdict actor counter numbers j) (take (b - a) (drop a l))
+  part_records : (h j a b : ℕ) (l : List (Entry I N V)) → AllByRecursion (Covered actor counter numbers) (take b l) → take (b - a) (drop a (sifted_records (clock_verdict actor counter numbers h) l)) ≡ sifted_records (clock_verdict actor counter numbers j) (take (b - a) (drop a l))
   part_records h j a b l k =
       let v : Entry I N V → Verdict = clock_verdict actor counter numbers h in
       let w : Entry I N V → Verdict = clock_verdict actor counter numbers j in
@@ -67,7 +67,7 @@ module _ {I N V : Type 0} (actor counter : I → ℕ) (numbers : List ℕ) where
       ∙ sym (all_records w (drop a (take b l)) (covered_kept j (drop a (take b l)) (All-drop (Covered actor counter numbers) a (take b l) k)))
       ∙ ap (sifted_records w) (drop_of_take a b l)
 
-  part_ending : (h j a b : ℕ) (l : List (Entry I N V)) (e : Ending) → All (Covered actor counter numbers) (take b l) → window_ending b (sifted_records (clock_verdict actor counter numbers h) l) (sifted_ending (clock_verdict actor counter numbers h) l e) ≡ sifted_ending (clock_verdict actor counter numbers j) (take (b - a) (drop a l)) (window_ending b l e)
+  part_ending : (h j a b : ℕ) (l : List (Entry I N V)) (e : Ending) → AllByRecursion (Covered actor counter numbers) (take b l) → window_ending b (sifted_records (clock_verdict actor counter numbers h) l) (sifted_ending (clock_verdict actor counter numbers h) l e) ≡ sifted_ending (clock_verdict actor counter numbers j) (take (b - a) (drop a l)) (window_ending b l e)
   part_ending h j a b l e k =
       let v : Entry I N V → Verdict = clock_verdict actor counter numbers h in
       let w : Entry I N V → Verdict = clock_verdict actor counter numbers j in
@@ -75,7 +75,7 @@ module _ {I N V : Type 0} (actor counter : I → ℕ) (numbers : List ℕ) where
       ∙ sym (all_ending w (drop a (take b l)) (window_ending b l e) (covered_kept j (drop a (take b l)) (All-drop (Covered actor counter numbers) a (take b l) k)))
       ∙ ap (λ (r : List (Entry I N V)). sifted_ending w r (window_ending b l e)) (drop_of_take a b l)
 
-  exchange : (a b : ℕ) (m : Meaning I N V) → All (Covered actor counter numbers) (take b m.records) → window a b (clocked actor counter numbers m) ≡ clocked actor counter numbers (window a b m)
+  exchange : (a b : ℕ) (m : Meaning I N V) → AllByRecursion (Covered actor counter numbers) (take b m.records) → window a b (clocked actor counter numbers m) ≡ clocked actor counter numbers (window a b m)
   exchange a b m k =
       let h = raised m.height in
       ap (λ (r : List (Entry I N V)). meant (raised h) r (window a b (clocked actor counter numbers m)).ending) (part_records h (raised h) a b m.records k)

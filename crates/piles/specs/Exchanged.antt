@@ -1,6 +1,6 @@
 -- The clock layer and the window in either order. Assumes nothing.
 use Rattle.std.specs.Prelude.{◌≡◌, ℕ, ◌<◌, Bool, true, List, [], ◌∷◌, length, take, Some, None, Ok, Err, Option, Result}
-use Rattle.std.specs.List.{AllByRecursion as All}
+use Rattle.std.specs.List.{AllByRecursion}
 use Rattle.kinds.specs.declared.refusal.Refusal.{Refusal}
 use Rattle.kinds.specs.declared.refusal.Refusal.TheVariants.{ActorUnknown}
 use Rattle.sources.specs.Clock.{covering}
@@ -48,7 +48,7 @@ module _ {I N V : Type 0} (actor counter : I → ℕ) (numbers : List ℕ) where
 -- Where the clock covers every record up to the window's end, the two may change places.
 abbrev pub CoveredExchange : {I : Type 0} → (I → ℕ) → (I → ℕ) → Type 0 → Type 0 → Type 0
 CoveredExchange {I} actor counter N V =
-    (numbers : List ℕ) (a b : ℕ) (m : Meaning I N V) → All (Covered actor counter numbers) (take b m.records) → window a b (clocked actor counter numbers m) ≡ clocked actor counter numbers (window a b m)
+    (numbers : List ℕ) (a b : ℕ) (m : Meaning I N V) → AllByRecursion (Covered actor counter numbers) (take b m.records) → window a b (clocked actor counter numbers m) ≡ clocked actor counter numbers (window a b m)
 
 -- Where the window is longer than the list below, they may but for the height of a missing actor.
 abbrev pub UnfilledExchange : {I : Type 0} → (I → ℕ) → (I → ℕ) → Type 0 → Type 0 → Type 0

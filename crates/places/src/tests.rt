@@ -9,13 +9,13 @@ fn items_keep_their_order(rt: HostRuntime) {
     assert!(rt; places.insert(0, 1).is_ok());
     assert!(rt; places.insert(1, 2).is_ok());
     assert!(rt; places.push(4).is_ok());
-    assert!(rt; places.all() == &[1, 2, 3, 4]);
+    assert!(rt; places.all() == [1, 2, 3, 4].as_slice());
     assert_eq!(rt; places.push(5), Err(NoPlace::Full));
     assert_eq!(rt; places.insert(2, 5), Err(NoPlace::Full));
-    assert!(rt; places.all() == &[1, 2, 3, 4]);
+    assert!(rt; places.all() == [1, 2, 3, 4].as_slice());
     assert_eq!(rt; places.remove(1), Some(2));
     assert_eq!(rt; places.remove(3), None);
-    assert!(rt; places.all() == &[1, 3, 4]);
+    assert!(rt; places.all() == [1, 3, 4].as_slice());
     assert_eq!(rt; places.len(), 3);
     assert_eq!(rt; places.capacity(), 4);
 }
