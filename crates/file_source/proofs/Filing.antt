@@ -1,9 +1,9 @@
 -- What is meant from a record of a file on.
-use Rattle.std.proofs.Common.{◌≡◌, ℕ, suc, ◌+◌, ◌-◌, ◌<◌, ◌≤◌, Bool, true, false, cond, ◌&&◌, eqb, ltb, List, [], ◌∷◌, is_some, Some, None, Ok, Option, Result, sym, refl, ap, ◌∙◌, subst, arith, ltb-true}
+use Rattle.std.proofs.Common.{◌≡◌, ℕ, suc, ◌+◌, ◌-◌, ◌<◌, Bool, true, false, cond, ◌&&◌, eqb, ltb, List, ◌∷◌, is_some, Some, None, Ok, Option, Result, sym, refl, ap, ◌∙◌, subst, arith, ltb-true}
 use Rattle.kinds.specs.declared.document.OpId.{OpId}
 use Rattle.kinds.specs.declared.text.ShortStr.{ShortStr}
 use Rattle.kinds.specs.declared.value.ScalarValue.{ScalarValue}
-use Rattle.sources.specs.Meaning.{Entry, Meaning, plain, first, first_text, byte_at, stepped, shown}
+use Rattle.sources.specs.Meaning.{plain, first, first_text, byte_at, stepped, shown}
 use Rattle.sources.specs.Table.{text_of}
 use Rattle.sources.specs.declared.fault.Fault.{Fault}
 use Rattle.sources.specs.declared.record.Record.{Record}
@@ -11,7 +11,7 @@ use Rattle.sources.specs.declared.table.TextPlace.{TextPlace}
 use Rattle.house.specs.Fields.{byte, slice, le16, le32}
 use Rattle.house.specs.Records.{none, set_action, records_count, record_place}
 use Rattle.house.specs.House.{text_at}
-use Rattle.house.specs.Held.{name_found, value_found, found_by, text_placed, entry_at, entries_from, filed}
+use Rattle.house.specs.Held.{name_found, value_found, found_by, text_placed, entry_at, filed}
 use Rattle.file.specs.Given.{place_given, record_standing, record_found}
 use Rattle.file.specs.declared.fields.FileRecord.{FileRecord}
 

@@ -3,7 +3,7 @@ use Rattle.std.proofs.Common.{◌≡◌, ℕ, zero, suc, ◌+◌, ◌-◌, ◌*�
 use Rattle.house.specs.Items.{item_place}
 use Rattle.house.specs.Names.{name_width, name_place, names_count}
 use Rattle.house.specs.Values.{value_width, value_place, values_head, values_count}
-use Rattle.house.specs.Records.{record_place, records_head, records_count, text_head, text_count}
+use Rattle.house.specs.Records.{record_place, records_head, records_count, text_count}
 use Rattle.house.specs.House.{text_place, file_end}
 
 module _ (width : List ℕ → ℕ → ℕ) (head : ℕ) (d : List ℕ) where

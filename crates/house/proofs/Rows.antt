@@ -1,7 +1,7 @@
 -- Good fields and the first bad one, in lists that are joined and in the rows of items.
-use Rattle.std.proofs.Common.{◌≡◌, ℕ, zero, suc, ◌+◌, ◌-◌, ◌<◌, ◌⊎◌, List, [], ◌∷◌, ◌++◌, subst, inl, inr, suc-add, zero-add, add-one, arith}
+use Rattle.std.proofs.Common.{◌≡◌, ℕ, zero, suc, ◌+◌, ◌-◌, ◌<◌, List, [], ◌∷◌, ◌++◌, subst, inl, inr, suc-add, zero-add, add-one, arith}
 use Rattle.house.specs.declared.bad.BadFile.{BadFile}
-use Rattle.house.specs.Fields.{Field, Good, Bad, AllGood, FirstBad, each}
+use Rattle.house.specs.Fields.{Field, AllGood, FirstBad, each}
 
 module _ (d : List ℕ) where
   -- what is good in two parts is good when they are joined

@@ -1,5 +1,5 @@
 -- A list of fields has one verdict.
-use Rattle.std.proofs.Common.{◌≡◌, ℕ, ◌+◌, ◌≤◌, ◌⊎◌, List, [], ◌∷◌, length, sym, ap, ◌∙◌, inl, inr, arith}
+use Rattle.std.proofs.Common.{◌≡◌, ℕ, ◌+◌, ◌≤◌, List, [], ◌∷◌, sym, ap, ◌∙◌, inl, inr, arith}
 use Rattle.house.specs.declared.bad.BadFile.{BadFile}
 use Rattle.house.specs.Fields.{Field, Good, Bad, AllGood, FirstBad}
 use Rattle.house.specs.Order.{Follow, SomeBad}

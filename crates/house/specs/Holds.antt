@@ -1,5 +1,5 @@
 -- What is meant by a good file, in the words of the format. Assumes nothing.
-use Rattle.std.specs.Prelude.{◌≡◌, ℕ, ◌+◌, ◌<◌, ◌≤◌, cond, ◌⊎◌, List, [], ◌∷◌, length, Some, None, ◌≢◌}
+use Rattle.std.specs.Prelude.{◌≡◌, ℕ, ◌+◌, ◌<◌, ◌≤◌, cond, List, [], ◌∷◌, length, Some, None, ◌≢◌}
 use Rattle.kinds.specs.declared.text.ShortStr.{ShortStr}
 use Rattle.kinds.specs.declared.value.ScalarValue.{ScalarValue}
 use Rattle.kinds.specs.declared.value.ScalarValue.TheVariants.{Bytes, Str, Int, Uint, F64, Counter, Timestamp, Boolean, Unknown, Null}

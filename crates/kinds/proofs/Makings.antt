@@ -1,5 +1,5 @@
 -- What bytes make is what holds them, and nothing else does. Assumes nothing.
-use Rattle.std.proofs.Common.{◌≡◌, ℕ, ◌<◌, ◌≤◌, Bool, true, false, leb, List, length, Some, None, Ok, Err, Option, Result, sym, refl, ap, ◌∙◌, subst, arith, leb-false, leb-true, MatchResult}
+use Rattle.std.proofs.Common.{◌≡◌, ℕ, ◌<◌, ◌≤◌, Bool, true, false, leb, List, length, Some, None, Ok, Err, Result, sym, refl, ap, ◌∙◌, subst, arith, leb-false, leb-true, MatchResult}
 use Rattle.std.specs.Result.{result_ok}
 use Rattle.measures.specs.Rfc3629.{Utf8Octets}
 use Rattle.measures.specs.Judged.{judged}

@@ -4,7 +4,7 @@ use Rattle.std.specs.List.{insert, remove}
 use Rattle.std.proofs.lemmas.List.{take-append-drop}
 use Rattle.std.proofs.lemmas.Bool.{cond-true, cond-false, both_ways, not-true, not_from_true, not_from_false}
 use Rattle.kinds.specs.Order.{TotalOrder}
-use Rattle.marks.specs.Lists.{◌∈◌, Each, kept}
+use Rattle.marks.specs.Lists.{◌∈◌, Each}
 use Rattle.marks.specs.Open.{alike, IsOpen, Ascending, begun, ended, Opens, Closes, Found}
 use Rattle.marks.specs.declared.mark.OpenMark.{OpenMark}
 use Rattle.marks.proofs.Lists.{each_in, in_each, each_map, each_join, each_nth}

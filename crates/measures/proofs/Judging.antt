@@ -1,5 +1,5 @@
 -- The test of well-formed bytes decides the grammar. Assumes nothing.
-use Rattle.std.proofs.Common.{◌≡◌, ℕ, Bool, true, false, List, [], ◌∷◌, Some, None, Decides, Option, refl}
+use Rattle.std.proofs.Common.{ℕ, List, [], ◌∷◌, Some, None, Decides, Option, refl}
 use Rattle.measures.proofs.Characters.{octets_none}
 use Rattle.measures.proofs.Reading.{false_true}
 use Rattle.measures.proofs.Steps.{Goes, stepped_right}

@@ -1,12 +1,12 @@
 -- Two clock layers. Assumes nothing.
-use Rattle.std.proofs.Common.{◌≡◌, ℕ, Bool, true, false, ◌⊎◌, List, [], ◌∷◌, Ok, Err, Result, sym, refl, ap, ◌∙◌, inl, inr, arith}
+use Rattle.std.proofs.Common.{◌≡◌, ℕ, Bool, true, false, ◌⊎◌, List, [], ◌∷◌, Ok, Err, Result, refl, ap, inl, inr, arith}
 use Rattle.kinds.specs.declared.refusal.Refusal.{Refusal}
 use Rattle.kinds.specs.declared.refusal.Refusal.TheVariants.{ActorUnknown}
-use Rattle.sources.specs.Meaning.{Meaning, Entry, Ending, fault, raised}
-use Rattle.sources.specs.Sifted.{Verdict, keep, pass, stop, records_by, ending_by, sifted_records, sifted_ending, verdict_on, clock_verdict, clocked}
+use Rattle.sources.specs.Meaning.{Entry, Ending, raised}
+use Rattle.sources.specs.Sifted.{Verdict, keep, pass, stop, records_by, ending_by, sifted_records, sifted_ending, verdict_on, clock_verdict}
 use Rattle.sources.specs.declared.fault.Fault.{Fault}
 use Rattle.piles.proofs.Turns.{only_lacking}
-use Rattle.piles.specs.Clocks.{then, both, VerdictOfBoth, BothSift, ClocksJoin}
+use Rattle.piles.specs.Clocks.{then, VerdictOfBoth, ClocksJoin}
 use Rattle.piles.specs.Exchanged.{actor_lacked, told_of}
 
 module _ {A : Type 0} (lower upper : A → Verdict) where

@@ -1,5 +1,5 @@
 -- The clock layer and the window in either order. Assumes nothing.
-use Rattle.std.proofs.Common.{◌≡◌, ℕ, zero, suc, ◌-◌, ◌<◌, ◌≤◌, Bool, true, false, cond, ltb, List, [], ◌∷◌, length, take, drop, Some, None, Ok, Err, Option, Result, sym, refl, ap, ◌∙◌, subst, arith}
+use Rattle.std.proofs.Common.{◌≡◌, ℕ, zero, suc, ◌-◌, ◌<◌, ◌≤◌, Bool, true, false, ltb, List, [], ◌∷◌, length, take, drop, Ok, Err, Option, Result, sym, refl, ap, ◌∙◌, arith}
 use Rattle.std.specs.List.{AllByRecursion}
 use Rattle.std.proofs.ByRecursion.{All-weaker, All-drop}
 use Rattle.std.proofs.lemmas.List.{take_all}
@@ -7,11 +7,11 @@ use Rattle.std.proofs.lemmas.Bool.{lt-ltb, le-ltb}
 use Rattle.kinds.specs.declared.refusal.Refusal.{Refusal}
 use Rattle.kinds.specs.declared.refusal.Refusal.TheVariants.{ActorUnknown}
 use Rattle.sources.specs.Clock.{covering}
-use Rattle.sources.specs.Meaning.{Meaning, Entry, Ending, plain, fault, raised}
+use Rattle.sources.specs.Meaning.{Meaning, Entry, Ending, raised}
 use Rattle.sources.specs.Sifted.{Verdict, keep, pass, stop, records_by, ending_by, sifted_records, sifted_ending, verdict_on, clock_verdict, clocked}
 use Rattle.sources.specs.Window.{window, window_ending}
 use Rattle.piles.proofs.Fronts.{drop_of_take, one_more}
-use Rattle.piles.specs.Exchanged.{actor_lacked, told_at, lacking_by, told_of, Covered, lacking_row, Unfilled, CoveredExchange, UnfilledExchange}
+use Rattle.piles.specs.Exchanged.{told_at, lacking_by, told_of, Covered, lacking_row, Unfilled, CoveredExchange, UnfilledExchange}
 
 -- what is meant, part by part
 abbrev meant : {I N V : Type 0} → ℕ → List (Entry I N V) → Ending → Meaning I N V

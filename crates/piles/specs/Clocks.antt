@@ -1,5 +1,5 @@
 -- Two clock layers. Assumes nothing.
-use Rattle.std.specs.Prelude.{◌≡◌, ℕ, true, ◌⊎◌, List, Ok, Err}
+use Rattle.std.specs.Prelude.{◌≡◌, ℕ, ◌⊎◌, List, Err}
 use Rattle.kinds.specs.declared.refusal.Refusal.TheVariants.{ActorUnknown}
 use Rattle.sources.specs.Meaning.{Meaning, Entry, raised}
 use Rattle.sources.specs.Sifted.{Verdict, keep, pass, stop, sifted_records, sifted_ending, clock_verdict, clocked}

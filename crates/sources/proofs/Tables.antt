@@ -1,5 +1,5 @@
 -- A table from a row on, and the bytes of a part of its memory. Assumes nothing.
-use Rattle.std.proofs.Common.{◌≡◌, ℕ, zero, suc, ◌+◌, ◌-◌, ◌<◌, ◌≤◌, min, Bool, true, false, List, [], ◌∷◌, length, get_or, take, drop, Some, None, Ok, Err, Option, sym, refl, ap, ◌∙◌, add-one, arith, length-drop, drop_of_length-le, length-take, get_or-drop, drop-cons, get_or-take}
+use Rattle.std.proofs.Common.{◌≡◌, ℕ, zero, suc, ◌+◌, ◌-◌, ◌<◌, ◌≤◌, min, Bool, true, false, List, [], ◌∷◌, length, get_or, take, drop, Some, None, Ok, Option, sym, refl, ap, ◌∙◌, add-one, arith, length-drop, drop_of_length-le, length-take, get_or-drop, drop-cons, get_or-take}
 use Rattle.sources.specs.Meaning.{Meaning, Entry, Ending, stepped, rest, item, byte_at}
 use Rattle.sources.specs.Table.{held, text_of, entry, past_memory, before, ends_with, good_records, good_ending, tabled, good_or, headed, shows_one}
 use Rattle.sources.specs.declared.fault.Fault.{Fault}

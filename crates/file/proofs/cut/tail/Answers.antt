@@ -1,4 +1,4 @@
-use Rattle.std.proofs.Common.{◌≡◌, ◌+◌, length, get_or, ap, ◌∙◌}
+use Rattle.std.proofs.Common.{◌+◌, length, get_or, ap, ◌∙◌}
 use Rattle.file.proofs.Tails.{behind, behind_length, behind_reads, behind_first}
 use Rattle.file.proofs.cut.tail.Goals as goal
 

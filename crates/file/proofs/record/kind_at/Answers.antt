@@ -1,4 +1,4 @@
-use Rattle.std.proofs.Common.{◌<◌, subst, arith}
+use Rattle.std.proofs.Common.{arith}
 use Rattle.house.specs.Values.{value_width, values_head, values_count}
 use Rattle.house.proofs.Bounds.{item_within}
 use Rattle.file.proofs.record.kind_at.Goals as goal

@@ -1,4 +1,4 @@
-use Rattle.std.proofs.Common.{◌≡◌, ℕ, ◌≤◌, length}
+use Rattle.std.proofs.Common.{◌≡◌, ◌≤◌, length}
 use Rattle.house.specs.Fields.{AllGood, each}
 use Rattle.house.specs.Records.{record_row, record_place, records_count}
 use Rattle.file.proofs.records.records.Given as goal

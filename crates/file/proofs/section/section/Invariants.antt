@@ -1,4 +1,4 @@
-use Rattle.std.proofs.Common.{◌≡◌, ℕ, ◌≤◌, length}
+use Rattle.std.proofs.Common.{◌≡◌, ◌≤◌, length}
 use Rattle.house.specs.Fields.{AllGood, each, le32}
 use Rattle.house.specs.Items.{item_place, item_row}
 use Rattle.file.specs.Indexed.{Indexed}

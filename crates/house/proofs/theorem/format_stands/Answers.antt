@@ -1,4 +1,3 @@
-use Rattle.std.proofs.Common.{refl}
 use Rattle.house.specs.House.{fields, file_end}
 use Rattle.house.proofs.Follows.{file_follow}
 use Rattle.house.proofs.Verdicts.{verdict_either, verdict_one, verdict_least}

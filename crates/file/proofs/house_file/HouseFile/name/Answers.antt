@@ -1,4 +1,4 @@
-use Rattle.std.proofs.Common.{◌≡◌, ◌+◌, ◌<◌, ◌≤◌, length, sym, refl, ap, ◌∙◌, subst, arith, le-ltb, lt-ltb}
+use Rattle.std.proofs.Common.{◌+◌, ◌<◌, ◌≤◌, length, sym, ap, ◌∙◌, subst, arith, le-ltb, lt-ltb}
 use Rattle.kinds.specs.Making.{text_from}
 use Rattle.house.specs.Fields.{byte, slice}
 use Rattle.house.specs.Names.{name_width, names_count}

@@ -1,5 +1,5 @@
-use Rattle.std.proofs.Common.{◌≡◌, ◌+◌, ◌*◌, ◌<◌, ◌≤◌, Some, sym, refl, ap, ◌∙◌, arith, le-ltb, lt-ltb}
-use Rattle.house.specs.Records.{records_count, record_place}
+use Rattle.std.proofs.Common.{◌+◌, ◌*◌, ◌<◌, ◌≤◌, Some, ap, ◌∙◌, arith, le-ltb, lt-ltb}
+use Rattle.house.specs.Records.{records_count}
 use Rattle.house.proofs.Bounds.{record_within}
 use Rattle.file.specs.Given.{record_standing}
 use Rattle.file.proofs.Had.{known}

@@ -1,4 +1,4 @@
-use Rattle.std.proofs.Common.{◌≡◌, ◌+◌, drop, ap, ◌∙◌, arith}
+use Rattle.std.proofs.Common.{◌+◌, drop, ap, ◌∙◌, arith}
 use Rattle.house.specs.Records.{text_count}
 use Rattle.house.specs.House.{text_place}
 use Rattle.house.proofs.Bounds.{counts_within}

@@ -1,4 +1,4 @@
-use Rattle.std.proofs.Common.{◌≡◌, ◌+◌, ◌<◌, ◌≤◌, length, sym, refl, ap, ◌∙◌, subst, arith, le-ltb, lt-ltb}
+use Rattle.std.proofs.Common.{◌+◌, ◌<◌, ◌≤◌, length, sym, ap, ◌∙◌, subst, arith, le-ltb, lt-ltb}
 use Rattle.house.specs.Fields.{byte}
 use Rattle.house.specs.Held.{value_standing}
 use Rattle.house.specs.Values.{LengthOf, kind_of, value_width, values_count}
