@@ -8,7 +8,7 @@ abbrev pub summed : (ℕ → ℕ) → List ℕ → ℕ
 summed f [] = 0
 summed f (x ∷ xs) = f x + summed f xs
 
--- how many code points begin at a byte: one, unless it is a Utf8Tail
+-- how many code points begin at a byte: one, unless it is a UTF8-tail
 abbrev pub points : ℕ → ℕ
 points b = cond (is_in_range 0x80 0xBF b) 0 1
 
@@ -16,7 +16,7 @@ points b = cond (is_in_range 0x80 0xBF b) 0 1
 abbrev pub fours : ℕ → ℕ
 fours b = cond (nat_lt b 0xF0) 0 1
 
--- how many code units of UTF-16 a byte stands for: none if it is a Utf8Tail, two if it begins a four-byte form, else one
+-- how many code units of UTF-16 a byte stands for: none if it is a UTF8-tail, two if it begins a four-byte form, else one
 abbrev pub units : ℕ → ℕ
 units b = cond (is_in_range 0x80 0xBF b) 0 (cond (nat_lt b 0xF0) 1 2)
 

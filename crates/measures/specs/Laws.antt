@@ -52,7 +52,7 @@ summed_laws f counts = record {
   empty = summed_empty f counts;
 }
 
--- such a byte is no Utf8Tail
+-- such a byte is no UTF8-tail
 pub first_no_tail : (b : ℕ) → First b → is_in_range 0x80 0xBF b ≡ false
 first_no_tail b (inl h) = and_left (nat_le 0x80 b) (nat_le b 0xBF) (lt-leb 0x80 b (omega arith))
 first_no_tail b (inr h) = and_right (nat_le 0x80 b) (nat_le b 0xBF) (lt-leb b 0xBF (omega arith))

@@ -1,21 +1,21 @@
--- Well-formed text: the grammar of RFC 3629, section 4, rule by rule under the names that it has there. Assumes nothing.
+-- Well-formed text: the grammar of RFC 3629, section 4, rule by rule, each under its name there as the checker spells names. Assumes nothing.
 use Rattle.std.specs.Prelude.{◌≡◌, ℕ, ◌⊎◌, ◌↔◌, List, [], ◌∷◌, ◌++◌, IsUtf8}
 use Rattle.std.specs.Int.{IsInRange}
 use Rattle.std.specs.List.{AllByRecursion}
 
--- Utf8Tail = %x80-BF
+-- UTF8-tail = %x80-BF
 abbrev pub Utf8Tail : ℕ → Type 0
 Utf8Tail a = IsInRange 0x80 0xBF a
 
--- Utf8One = %x00-7F
+-- UTF8-1 = %x00-7F
 abbrev pub Utf8One : ℕ → Type 0
 Utf8One a = IsInRange 0x00 0x7F a
 
--- Utf8Two = %xC2-DF Utf8Tail
+-- UTF8-2 = %xC2-DF UTF8-tail
 abbrev pub Utf8Two : ℕ → ℕ → Type 0
 Utf8Two a b = IsInRange 0xC2 0xDF a × Utf8Tail b
 
--- Utf8Three = %xE0 %xA0-BF Utf8Tail / %xE1-EC 2( Utf8Tail ) / %xED %x80-9F Utf8Tail / %xEE-EF 2( Utf8Tail )
+-- UTF8-3 = %xE0 %xA0-BF UTF8-tail / %xE1-EC 2( UTF8-tail ) / %xED %x80-9F UTF8-tail / %xEE-EF 2( UTF8-tail )
 abbrev pub Utf8Three : ℕ → ℕ → ℕ → Type 0
 Utf8Three a b c =
     ((a ≡ 0xE0) × IsInRange 0xA0 0xBF b × Utf8Tail c)
@@ -23,14 +23,14 @@ Utf8Three a b c =
     ⊎ ((a ≡ 0xED) × IsInRange 0x80 0x9F b × Utf8Tail c)
     ⊎ (IsInRange 0xEE 0xEF a × Utf8Tail b × Utf8Tail c)
 
--- Utf8Four = %xF0 %x90-BF 2( Utf8Tail ) / %xF1-F3 3( Utf8Tail ) / %xF4 %x80-8F 2( Utf8Tail )
+-- UTF8-4 = %xF0 %x90-BF 2( UTF8-tail ) / %xF1-F3 3( UTF8-tail ) / %xF4 %x80-8F 2( UTF8-tail )
 abbrev pub Utf8Four : ℕ → ℕ → ℕ → ℕ → Type 0
 Utf8Four a b c d =
     ((a ≡ 0xF0) × IsInRange 0x90 0xBF b × Utf8Tail c × Utf8Tail d)
     ⊎ (IsInRange 0xF1 0xF3 a × Utf8Tail b × Utf8Tail c × Utf8Tail d)
     ⊎ ((a ≡ 0xF4) × IsInRange 0x80 0x8F b × Utf8Tail c × Utf8Tail d)
 
--- Utf8Char = Utf8One / Utf8Two / Utf8Three / Utf8Four
+-- UTF8-char = UTF8-1 / UTF8-2 / UTF8-3 / UTF8-4
 abbrev pub Utf8Char : List ℕ → Type 0
 Utf8Char [] = ⊥
 Utf8Char (a ∷ []) = Utf8One a
@@ -44,7 +44,7 @@ abbrev pub joined : List (List ℕ) → List ℕ
 joined [] = []
 joined (char ∷ chars) = char ++ joined chars
 
--- Utf8Octets = *( Utf8Char )
+-- UTF8-octets = *( UTF8-char )
 unfoldable pub Utf8Octets : List ℕ → Type 0
 Utf8Octets bytes = (chars : List (List ℕ)) × AllByRecursion Utf8Char chars × (joined chars ≡ bytes)
 
