@@ -1,3 +1,3 @@
-mod Copies
+pub mod Copies
 pub mod WellFormed
 pub mod Makings

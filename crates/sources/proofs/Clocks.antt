@@ -1,17 +1,8 @@
--- Numbers of a clock copied one at a time, and looked up. Assumes nothing.
-use Rattle.std.proofs.Common.{◌≡◌, ℕ, zero, suc, ◌+◌, ◌<◌, ◌≤◌, leb, List, [], ◌∷◌, ◌++◌, length, get_or, take, set, Ok, Err, sym, refl, ap, ◌∙◌, arith, length-take}
-use Rattle.std.proofs.lemmas.List.{take_more, take_more_set, take_all, get_or-take}
+-- Numbers of a clock looked up. Assumes nothing.
+use Rattle.std.proofs.Common.{◌≡◌, ℕ, zero, suc, ◌<◌, ◌≤◌, leb, List, [], ◌∷◌, length, get_or, take, Ok, Err, sym, refl, ap, ◌∙◌, arith, length-take}
+use Rattle.std.proofs.lemmas.List.{get_or-take}
 use Rattle.kinds.specs.declared.refusal.Refusal.TheVariants.{ActorUnknown}
 use Rattle.sources.specs.Clock.{covering}
-
--- one more is copied
-pub copied_more : (held numbers : List ℕ) (i : ℕ) → i < length held → i < length numbers → take i held ≡ take i numbers → take (i + 1) (set held i (get_or numbers i 0)) ≡ take (i + 1) numbers
-copied_more held numbers i h l e =
-    take_more_set held i (get_or numbers i 0) h ∙ ap (λ front. front ++ get_or numbers i 0 ∷ []) e ∙ sym (take_more numbers i 0 l)
-
--- all are copied
-pub copied_whole : (held numbers : List ℕ) (i : ℕ) → i ≡ length numbers → take i held ≡ take i numbers → take (length numbers) held ≡ numbers
-copied_whole held numbers i p e = ap (λ n. take n held) (sym p) ∙ e ∙ take_all i numbers (omega arith)
 
 known : (ns : List ℕ) (actor counter : ℕ) → actor < length ns → Ok (leb counter (get_or ns actor 0)) ≡ covering ns actor counter
 known [] actor counter h = absurd (omega arith)

@@ -1,16 +1,9 @@
 -- What a window does as the source below goes on. Assumes nothing.
-use Rattle.std.proofs.Common.{◌≡◌, ℕ, zero, suc, ◌+◌, ◌-◌, ◌<◌, true, false, ltb, List, [], ◌∷◌, length, take, drop, sym, refl, ap, ◌∙◌, arith, lt-ltb}
+use Rattle.std.proofs.Common.{◌≡◌, ℕ, suc, ◌+◌, ◌-◌, ◌<◌, true, false, ltb, List, [], ◌∷◌, length, sym, refl, ap, ◌∙◌, arith, lt-ltb}
+use Rattle.std.proofs.Math.Seq.{take-nil, drop-nil}
 use Rattle.std.proofs.lemmas.Bool.Decides.{nat_tests}
 use Rattle.sources.specs.Meaning.{Meaning, Entry, Ending, first, first_text, stepped, nonempty}
 use Rattle.sources.specs.Window.{opened}
-
-take_none : {A : Type 0} (k : ℕ) → take {A = A} k [] ≡ []
-take_none zero = refl
-take_none (suc k) = refl
-
-drop_none : {A : Type 0} (k : ℕ) → drop {A = A} k [] ≡ []
-drop_none zero = refl
-drop_none (suc k) = refl
 
 -- a list without a first is empty
 pub empty_list : {A : Type 0} (rs : List A) → false ≡ nonempty rs → rs ≡ []
@@ -50,14 +43,14 @@ module _ {I N V : Type 0} (skip left h : ℕ) (e : Ending) where
   shows_list : (rs : List (Entry I N V)) → (0 < skip → rs ≡ []) → 0 < skip + left → first (opened skip left (meant h rs e)).records (opened skip left (meant h rs e)).ending ≡ first rs e
   shows_list [] f t =
       let p : ltb 0 (skip + left) ≡ true = lt-ltb _ _ t in
-      rw (p, drop_none {A = Entry I N V} skip, take_none {A = Entry I N V} left)
+      rw (p, drop-nil {A = Entry I N V} skip, take-nil {A = Entry I N V} left)
   shows_list (x ∷ xs) f t =
       let p = no_skip x xs f in
       let q : left ≡ suc (left - 1) = omega arith in
       rw (p, q)
 
   text_list : (rs : List (Entry I N V)) → (0 < skip → rs ≡ []) → 0 < skip + left → first_text (opened skip left (meant h rs e)).records ≡ first_text rs
-  text_list [] f t = rw (drop_none {A = Entry I N V} skip, take_none {A = Entry I N V} left)
+  text_list [] f t = rw (drop-nil {A = Entry I N V} skip, take-nil {A = Entry I N V} left)
   text_list (x ∷ xs) f t =
       let p = no_skip x xs f in
       let q : left ≡ suc (left - 1) = omega arith in
@@ -90,7 +83,7 @@ module _ {I N V : Type 0} (skip left : ℕ) (m : Meaning I N V) where
 
   -- there is nothing below
   pub none_records : m.records ≡ [] → (opened skip left m).records ≡ []
-  none_records n = rw n (rw drop_none (take_none left))
+  none_records n = rw n (rw drop-nil (take-nil left))
 
 -- a step where there is no record
 pub stays : {I N V : Type 0} (m : Meaning I N V) → m.records ≡ [] → stepped m ≡ m

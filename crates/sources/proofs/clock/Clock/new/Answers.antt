@@ -1,5 +1,5 @@
 use Rattle.std.proofs.Common.{◌≡◌, ◌<◌, length, refl, arith, length-set}
-use Rattle.sources.proofs.Clocks.{copied_more, copied_whole}
+use Rattle.kinds.proofs.Copies.{copied_more, copied_whole}
 use Rattle.sources.proofs.clock.Clock.new.Goals as goal
 
 pub loop-actor-init : goal.loop-actor-init
