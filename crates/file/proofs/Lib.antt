@@ -1,3 +1,6 @@
 mod Tails
 mod Had
 mod Empty
+mod Chunks
+mod Places
+mod Judging

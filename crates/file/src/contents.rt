@@ -1,80 +1,53 @@
-//! The names and values that stand at a place of a good file.
-ghost use Rattle.std.specs.Prelude.{◌≡◌, ◌+◌, ◌≤◌, length, ℤ};
-ghost use Rattle.kinds.specs.Making.{text_from};
-ghost use Rattle.house.specs.Fields.{byte, slice};
-ghost use Rattle.house.specs.Values.{kind_of, LengthOf};
-ghost use Rattle.house.specs.Held.{le64, signed_at, value_of, value_standing};
+//! The value that stands at a place of a good file.
+ghost use Rattle.std.specs.Prelude.{◌≡◌, ◌+◌, ◌≤◌, length};
+ghost use Rattle.kinds.specs.Kinds.{kind_of};
+ghost use Rattle.house.specs.Fields.{byte};
+ghost use Rattle.house.specs.Values.{LengthOf};
+ghost use Rattle.house.specs.Held.{signed_at, value_of};
 
-use crate::cut::tail;
-use crate::values::kind_of;
-use house::kind::ValueKind;
-use kinds::document::{ScalarValue, ShortBytes, ShortStr};
+use crate::place::Place;
+use kinds::document::{FloatBits, ScalarValue, ShortBytes, ShortStr};
+use kinds::kind::ValueKind;
 
-/// The `len` bytes at a place.
-fn part(bytes: &[u8], at: usize, len: usize) -> &[u8]
-    requires { at + len ≤ length bytes.now }
-    ensures { result.now ≡ slice bytes.now at len }
+// As `tag_of` and `action_of`: one line each, not one generic function.
+
+/// The kind of a number; a number that no kind has counts as that of Null.
+pub(crate) fn kind_of(number: u8) -> ValueKind
+    ensures { result ≡ kind_of number }
 {
-    let rest = tail(bytes, at);
-    &rest[0..len]
+    ValueKind::try_from(number).unwrap_or(ValueKind::Null)
 }
 
-/// The name at a place.
-pub(crate) fn name_of(bytes: &[u8], at: usize) -> Option<ShortStr>
-    requires { at + (1 + byte bytes.now at) ≤ length bytes.now }
-    ensures { result ≡ text_from (slice bytes.now (at + 1) (byte bytes.now at)) }
+/// The signed number of eight bytes, where the content of a value at a place stands.
+fn signed(place: &Place<'_>) -> i64
+    requires { place.now.at + 11 ≤ length place.now.bytes.now }
+    ensures { result ≡ signed_at place.now.bytes.now (place.now.at + 3) }
 {
-    ShortStr::new(part(bytes, at + 1, bytes[at] as usize)).ok()
+    place.number::<u64>(3).cast_signed()
 }
 
-/// The number of eight bytes at a place.
-fn number_of(bytes: &[u8], at: usize) -> u64
-    requires { at + 8 ≤ length bytes.now }
-    ensures { result ≡ le64 bytes.now at }
+/// The value of a kind that stands at a place.
+pub(crate) fn content_of(kind: ValueKind, place: &Place<'_>) -> Option<ScalarValue>
+    requires fits { LengthOf kind (byte place.now.bytes.now (place.now.at + 2)) }
+    requires within { let d = place.now.bytes.now in place.now.at + 3 + byte d (place.now.at + 2) ≤ length d }
+    ensures { let d = place.now.bytes.now in result ≡ value_of kind d (byte d (place.now.at + 1)) (place.now.at + 3) (byte d (place.now.at + 2)) }
 {
-    let [b0, b1, b2, b3, b4, b5, b6, b7, ..] = tail(bytes, at) else {
-        unreachable()
-    };
-    u64::from_le_bytes([*b0, *b1, *b2, *b3, *b4, *b5, *b6, *b7])
-}
-
-/// The signed number of eight bytes at a place.
-fn signed_of(bytes: &[u8], at: usize) -> i64
-    requires { at + 8 ≤ length bytes.now }
-    ensures { result ≡ signed_at bytes.now at }
-{
-    number_of(bytes, at).cast_signed()
-}
-
-/// The value of a kind, whose `len` bytes of content stand at a place.
-fn content_of(bytes: &[u8], kind: ValueKind, code: u8, at: usize, len: usize) -> Option<ScalarValue>
-    requires fits { LengthOf kind len }
-    requires within { at + len ≤ length bytes.now }
-    ensures { result ≡ value_of kind bytes.now code at len }
-{
-    match kind {
-        ValueKind::Bytes => Some(ScalarValue::Bytes(ShortBytes::new(part(bytes, at, len)).ok()?)),
-        ValueKind::Str => Some(ScalarValue::Str(ShortStr::new(part(bytes, at, len)).ok()?)),
-        ValueKind::Int => Some(ScalarValue::Int(signed_of(bytes, at))),
-        ValueKind::Uint => Some(ScalarValue::Uint(number_of(bytes, at))),
-        ValueKind::F64 => Some(ScalarValue::F64(number_of(bytes, at))),
-        ValueKind::Counter => Some(ScalarValue::Counter(signed_of(bytes, at))),
-        ValueKind::Timestamp => Some(ScalarValue::Timestamp(signed_of(bytes, at))),
-        ValueKind::Boolean => Some(ScalarValue::Boolean(bytes[at] == 1)),
-        ValueKind::Unknown => Some(ScalarValue::Unknown {
-            type_code: code,
-            bytes: ShortBytes::new(part(bytes, at, len)).ok()?,
+    let content = place.slice(3, place.number(2));
+    Some(match kind {
+        ValueKind::Bytes => ScalarValue::Bytes(ShortBytes::new(content).ok()?),
+        ValueKind::Str => ScalarValue::Str(ShortStr::new(content).ok()?),
+        ValueKind::Int => ScalarValue::Int(signed(place)),
+        ValueKind::Uint => ScalarValue::Uint(place.number(3)),
+        ValueKind::F64 => ScalarValue::F64(FloatBits {
+            bits: place.number(3),
         }),
-        ValueKind::Null => Some(ScalarValue::Null),
-    }
-}
-
-/// The value at a place.
-pub(crate) fn value_of(bytes: &[u8], at: usize) -> Option<ScalarValue>
-    requires fits { LengthOf (kind_of (byte bytes.now at)) (byte bytes.now (at + 2)) }
-    requires within { at + (3 + byte bytes.now (at + 2)) ≤ length bytes.now }
-    ensures { result ≡ value_standing bytes.now at }
-{
-    let kind = kind_of(bytes[at]);
-    content_of(bytes, kind, bytes[at + 1], at + 3, bytes[at + 2] as usize)
+        ValueKind::Counter => ScalarValue::Counter(signed(place)),
+        ValueKind::Timestamp => ScalarValue::Timestamp(signed(place)),
+        ValueKind::Boolean => ScalarValue::Boolean(place.number::<u8>(3) == 1),
+        ValueKind::Unknown => ScalarValue::Unknown {
+            type_code: place.number(1),
+            bytes: ShortBytes::new(content).ok()?,
+        },
+        ValueKind::Null => ScalarValue::Null,
+    })
 }

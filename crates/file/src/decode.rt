@@ -1,140 +1,68 @@
-//! A record of a file, its fields taken apart.
-ghost use Rattle.std.specs.Prelude.{◌≡◌, ◌+◌, ◌≤◌, length};
-ghost use Rattle.house.specs.Held.{tag_of, action_of, number_given};
-ghost use Rattle.file.specs.Given.{place_given, numbers_standing, record_standing};
+//! A record of a good file, its fields taken apart.
+ghost use Rattle.std.specs.Prelude.{◌≡◌, ℕ, ◌+◌, ◌≤◌, length};
+ghost use Rattle.sources.specs.Tags.{tag_of, action_of};
+ghost use Rattle.house.specs.Held.{number_given};
+ghost use Rattle.file.specs.Given.{place_given, record_standing};
 
-use crate::cut::tail;
 use crate::fields::FileRecord;
+use crate::place::Place;
 use kinds::document::OpId;
 use sources::record::{Action, Diff};
 use sources::table::TextPlace;
 
-/// The numbers of a record, in the order in which they stand.
-#[derive(Clone, Copy)]
-struct Numbers {
-    tag: u8,
-    action: u8,
-    name: u16,
-    value: u16,
-    counter: u32,
-    actor: u32,
-    start: u32,
-    len: u32,
-}
-
-/// The name or value number that stands for none.
+/// The number in a file that stands for no name and for no value.
 const NONE: u16 = 65535;
 
-/// The tag of a number.
+// One line each, not one generic function: that would be told the last case, and promise no more.
+
+/// The tag of a number; a number that no tag has counts as that of Del.
 fn tag_of(number: u8) -> Diff
     ensures { result ≡ tag_of number }
 {
-    match number {
-        0 => Diff::Same,
-        1 => Diff::Add,
-        _ => Diff::Del,
-    }
+    Diff::try_from(number).unwrap_or(Diff::Del)
 }
 
-/// The action of a number.
+/// The action of a number; a number that no action has counts as that of Mark.
 fn action_of(number: u8) -> Action
     ensures { result ≡ action_of number }
 {
-    match number {
-        0 => Action::MakeMap,
-        1 => Action::MakeList,
-        2 => Action::MakeText,
-        3 => Action::Set,
-        4 => Action::Delete,
-        5 => Action::Increment,
-        6 => Action::MakeTable,
-        _ => Action::Mark,
-    }
+    Action::try_from(number).unwrap_or(Action::Mark)
 }
 
 /// The number, unless it stands for none.
-fn number_given(number: u16) -> Option<u16>
+pub(crate) fn number_given(number: u16) -> Option<u16>
     ensures { result ≡ number_given number }
 {
-    if number == NONE { None } else { Some(number) }
+    (number != NONE).then_some(number)
 }
 
 /// Where the text of a record stands, if it has one.
-fn place_given(action: u8, value: u16, start: u32, len: u32) -> Option<TextPlace>
-    ensures { result ≡ place_given action value start len }
+fn place_given(action: Action, value: Option<u16>, start: u32, len: u32) -> Option<TextPlace>
+    ensures { (a v : ℕ) → action ≡ action_of a → value ≡ number_given v → result ≡ place_given a v start len }
 {
-    if action == 3 && value == NONE {
-        Some(TextPlace {
-            start: start as usize,
-            len: len as usize,
-        })
-    } else {
-        None
-    }
-}
-
-/// The numbers of the record that stands at a place.
-fn numbers_of(bytes: &[u8], at: usize) -> Numbers
-    requires { at + 24 ≤ length bytes.now }
-    ensures { result ≡ numbers_standing bytes.now at }
-{
-    let [
-        tag,
-        action,
-        n0,
-        n1,
-        v0,
-        v1,
-        _,
-        _,
-        c0,
-        c1,
-        c2,
-        c3,
-        a0,
-        a1,
-        a2,
-        a3,
-        s0,
-        s1,
-        s2,
-        s3,
-        l0,
-        l1,
-        l2,
-        l3,
-        ..
-    ] = tail(bytes, at)
-    else {
-        unreachable()
+    let place = TextPlace {
+        start: start as usize,
+        len: len as usize,
     };
-    Numbers {
-        tag: *tag,
-        action: *action,
-        name: u16::from_le_bytes([*n0, *n1]),
-        value: u16::from_le_bytes([*v0, *v1]),
-        counter: u32::from_le_bytes([*c0, *c1, *c2, *c3]),
-        actor: u32::from_le_bytes([*a0, *a1, *a2, *a3]),
-        start: u32::from_le_bytes([*s0, *s1, *s2, *s3]),
-        len: u32::from_le_bytes([*l0, *l1, *l2, *l3]),
-    }
+    (action == Action::Set && value.is_none()).then_some(place)
 }
 
 /// The record that stands at a place.
-pub(crate) fn record_of(bytes: &[u8], at: usize) -> FileRecord
-    requires { at + 24 ≤ length bytes.now }
-    ensures { result ≡ record_standing bytes.now at }
+pub(crate) fn record_of(place: &Place<'_>) -> FileRecord
+    requires { place.now.at + 24 ≤ length place.now.bytes.now }
+    ensures { result ≡ record_standing place.now.bytes.now place.now.at }
 {
-    let n = numbers_of(bytes, at);
+    let action = action_of(place.number(1));
+    let value = number_given(place.number(4));
     FileRecord {
-        tag: tag_of(n.tag),
-        action: action_of(n.action),
-        name: number_given(n.name),
-        value: number_given(n.value),
+        tag: tag_of(place.number(0)),
+        action,
+        name: number_given(place.number(2)),
+        value,
         id: OpId {
-            counter: n.counter,
-            actor: n.actor,
+            counter: place.number(8),
+            actor: place.number(12),
         },
-        text: place_given(n.action, n.value, n.start, n.len),
+        text: place_given(action, value, place.number(16), place.number(20)),
     }
 }

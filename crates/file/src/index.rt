@@ -2,6 +2,7 @@
 ghost use Rattle.std.specs.Prelude.{◌≡◌, ℕ, ◌+◌, ◌*◌, ◌/◌, ◌<◌, length, ◌≢◌, slice_index};
 ghost use Rattle.file.specs.Indexed.{Indexed};
 
+// Arrays: places are noted without a heap.
 /// The places of items 0 to 255, and of items 0, 256, 512 and so on up to 65280.
 #[derive(Clone, Copy)]
 pub(crate) struct Index {
@@ -14,11 +15,13 @@ fn put(places: &mut [usize], k: usize, at: usize)
     ensures noted { k < length places.old → slice_index places.new k ≡ at }
     ensures others { (j : ℕ) → (j ≢ k) → slice_index places.new j ≡ slice_index places.old j }
 {
+    // An index in place of `get_mut`: with that, what the places are afterwards stayed open.
     if k < places.len() {
         places[k] = at;
     }
 }
 
+// `Indexed` relates an index to the places of a file, which is no field of it.
 impl Index {
     /// An index of no items.
     pub(crate) fn empty() -> Index
@@ -45,13 +48,13 @@ impl Index {
         requires { i < 256 }
         ensures { (place : ℕ → ℕ) (n : ℕ) → Indexed place n self.now → i < n → result ≡ place i }
     {
-        self.near[i as usize]
+        self.near[usize::from(i)]
     }
 
     /// The place of the last 256th item up to item `i`.
     pub(crate) fn far(&self, i: u16) -> usize
         ensures { (place : ℕ → ℕ) (n : ℕ) → Indexed place n self.now → i < n → result ≡ place (i / 256 * 256) }
     {
-        self.far[(i / 256) as usize]
+        self.far[usize::from(i / 256)]
     }
 }

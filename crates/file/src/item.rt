@@ -1,12 +1,16 @@
 //! Items of a section: what names and values have in common.
-ghost use Rattle.std.specs.Prelude.{◌≡◌, ℕ, ◌+◌, ◌≤◌, List, length};
+ghost use Rattle.std.specs.Prelude.{◌≡◌, ℕ, ◌+◌, ◌≤◌, List, Option, length};
 ghost use Rattle.house.specs.declared.bad.Part.{Part};
-ghost use Rattle.house.specs.Fields.{Field, Judged};
+ghost use Rattle.house.specs.Fields.{Field, AllGood, Judged};
 
+use crate::place::Place;
 use house::bad::{BadFile, Part};
 
-/// The items of a section: the place of their count, and of an item at a place its fields and its width.
-pub(crate) trait Item {
+/// The items of a section: the place of their count, and of an item at a place its fields, its width and what it holds.
+pub(crate) trait Item: Copy {
+    /// What an item holds.
+    type Held;
+
     ghost count: { Part };
 
     ghost head: { List ℕ → ℕ };
@@ -15,17 +19,24 @@ pub(crate) trait Item {
 
     ghost width: { List ℕ → ℕ → ℕ };
 
+    ghost standing: { List ℕ → ℕ → Option Self.Held };
+
     /// The part that their count is.
     fn part() -> Part
         ensures { result ≡ count };
 
     /// Checks the item at a place, and answers the place behind it.
-    fn check(bytes: &[u8], at: usize) -> Result<usize, BadFile>
-        requires { at ≤ length bytes.now }
-        ensures { Judged bytes.now (fields bytes.now at) result (λ q. (q ≡ at + width bytes.now at) × (q ≤ length bytes.now)) };
+    fn check<'a>(place: &Place<'a>) -> Result<Place<'a>, BadFile>
+        ensures { let d = place.now.bytes.now in Judged d (fields d place.now.at) result (λ q. (q.bytes.now ≡ d) × (q.at ≡ place.now.at + width d place.now.at)) };
 
     /// The place behind the item at a place.
-    fn behind(bytes: &[u8], at: usize) -> usize
-        requires { at + width bytes.now at ≤ length bytes.now }
-        ensures { result ≡ at + width bytes.now at };
+    fn behind<'a>(place: &Place<'a>) -> Place<'a>
+        requires { let d = place.now.bytes.now in place.now.at + width d place.now.at ≤ length d }
+        ensures bytes { result.bytes.now ≡ place.now.bytes.now }
+        ensures at { result.at ≡ place.now.at + width place.now.bytes.now place.now.at };
+
+    /// What a good item at a place holds.
+    fn held(place: &Place<'_>) -> Option<Self::Held>
+        requires { let d = place.now.bytes.now in ∥ AllGood d (fields d place.now.at) ∥₁ }
+        ensures { result ≡ standing place.now.bytes.now place.now.at };
 }

@@ -3,18 +3,21 @@
 
 mod check;
 mod contents;
-mod cut;
 mod decode;
+mod field;
 pub mod fields;
 mod frame;
 pub mod house_file;
 mod index;
 mod item;
-mod layout;
+mod judge;
 mod names;
+mod number;
+mod place;
 mod questions;
 mod record;
 mod records;
+mod rules;
 mod section;
 mod seen;
 mod values;

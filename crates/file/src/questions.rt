@@ -11,14 +11,9 @@ ghost use Rattle.file.specs.Given.{record_found};
 ghost use Rattle.file.specs.Files.{file_bytes, Kept};
 
 use crate::check::check;
-use crate::contents::{name_of, value_of};
-use crate::cut::tail;
 use crate::decode::record_of;
 use crate::fields::FileRecord;
 use crate::house_file::HouseFile;
-use crate::names::NameItem;
-use crate::section::item_place;
-use crate::values::ValueItem;
 use house::bad::BadFile;
 use kinds::document::{ScalarValue, ShortStr};
 
@@ -30,13 +25,7 @@ impl<'a> HouseFile<'a> {
     pub fn empty() -> HouseFile<'a>
         ensures { file_bytes result ≡ replicate 16 0 }
     {
-        match check(&EMPTY) {
-            Ok(layout) => HouseFile {
-                bytes: &EMPTY,
-                layout,
-            },
-            Err(_) => unreachable(),
-        }
+        check(&EMPTY).unwrap()
     }
 
     /// Makes this the file of these bytes; where they are no good file, answers why and leaves it as it was.
@@ -44,8 +33,7 @@ impl<'a> HouseFile<'a> {
         ensures judged { Judged bytes.now (fields bytes.now) result (λ _. (file_bytes self.new ≡ bytes.now) × Holds bytes.now) }
         ensures kept { Kept result self.old self.new }
     {
-        let layout = check(bytes)?;
-        *self = HouseFile { bytes, layout };
+        *self = check(bytes)?;
         Ok(())
     }
 
@@ -53,59 +41,53 @@ impl<'a> HouseFile<'a> {
     pub fn names(&self) -> u32
         ensures { result ≡ names_count (file_bytes self.now) }
     {
-        self.layout.names.count
+        self.names.count
     }
 
     /// How many values there are.
     pub fn values(&self) -> u32
         ensures { result ≡ values_count (file_bytes self.now) }
     {
-        self.layout.values.count
+        self.values.count
     }
 
     /// How many records there are.
     pub fn records(&self) -> u32
         ensures { result ≡ records_count (file_bytes self.now) }
     {
-        self.layout.records
+        self.records
     }
 
     /// Name `i`, or none past the last.
     pub fn name(&self, i: u16) -> Option<ShortStr>
         ensures { result ≡ name_found (file_bytes self.now) i }
     {
-        if u32::from(i) >= self.layout.names.count {
-            return None;
-        }
-        let at = item_place::<NameItem>(self.bytes, &self.layout.names, i);
-        name_of(self.bytes, at)
+        self.names.get(i)
     }
 
     /// Value `i`, or none past the last.
     pub fn value(&self, i: u16) -> Option<ScalarValue>
         ensures { result ≡ value_found (file_bytes self.now) i }
     {
-        if u32::from(i) >= self.layout.values.count {
-            return None;
-        }
-        let at = item_place::<ValueItem>(self.bytes, &self.layout.values, i);
-        value_of(self.bytes, at)
+        self.values.get(i)
     }
 
     /// Record `i` with its fields taken apart, or none past the last.
     pub fn record(&self, i: u32) -> Option<FileRecord>
         ensures { result ≡ record_found (file_bytes self.now) i }
     {
-        if i >= self.layout.records {
-            return None;
+        if i < self.records {
+            let place = self.values.end.ahead(4 + 24 * i as usize);
+            Some(record_of(&place))
+        } else {
+            None
         }
-        Some(record_of(self.bytes, self.layout.head + 4 + 24 * i as usize))
     }
 
     /// The text section.
     pub fn text(&self) -> &'a [u8]
         ensures { result.now ≡ text_at (file_bytes self.now) }
     {
-        tail(self.bytes, self.layout.text + 4)
+        &self.bytes[self.text + 4..]
     }
 }

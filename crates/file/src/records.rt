@@ -1,59 +1,39 @@
 //! The check of the records.
 ghost use Rattle.std.specs.Prelude.{◌≡◌, ℕ, ◌+◌, ◌*◌, ◌<◌, ◌≤◌, List, length};
 ghost use Rattle.house.specs.Fields.{Judged};
-ghost use Rattle.house.specs.Names.{names_count};
-ghost use Rattle.house.specs.Values.{value_width, values_head};
-ghost use Rattle.house.specs.Records.{records_fields, records_head, records_count, text_head};
-ghost use Rattle.file.specs.Frames.{Limit};
-ghost use Rattle.file.specs.Sections.{Describes};
+ghost use Rattle.house.specs.Records.{records_fields, records_count, text_head};
 
-use crate::cut::word_at;
 use crate::frame::Frame;
-use crate::record::record;
+use crate::names::NameItem;
+use crate::number::Number;
+use crate::record::Row;
 use crate::seen::Section;
+use crate::values::ValueItem;
 use house::bad::{BadFile, Part};
 
-/// The text's count behind `count` records, if the file reaches it.
-fn limit(bytes: &[u8], head: usize, count: u32) -> Option<u32>
-    requires head { head ≡ records_head bytes.now }
-    requires within { head + 4 ≤ length bytes.now }
-    requires count { count ≡ records_count bytes.now }
-    ensures { Limit bytes.now result }
-{
-    let left = bytes.len() - (head + 4);
-    let taken = 24 * count as usize;
-    if left < taken {
-        return None;
-    }
-    match word_at(bytes, head + 4 + taken, Part::TextCount) {
-        Ok(n) => Some(n),
-        Err(_) => None,
-    }
-}
-
-/// Checks the records whose count stands at `head`, and answers that count.
+/// Checks the records, whose count stands behind the values, and answers that count.
 pub(crate) fn records(
-    bytes: &[u8],
-    names: &Section,
-    values: &Section,
-    head: usize,
+    names: &Section<'_, NameItem>,
+    values: &Section<'_, ValueItem>,
 ) -> Result<u32, BadFile>
-    requires names { names.now.count ≡ names_count bytes.now }
-    requires values { Describes value_width (values_head bytes.now) bytes.now values.now }
-    requires head { head ≡ records_head bytes.now }
-    requires within { head ≤ length bytes.now }
-    ensures { Judged bytes.now (records_fields bytes.now) result (λ n. (n ≡ records_count bytes.now) × (text_head bytes.now ≤ length bytes.now)) }
+    requires { names.now.end.bytes.now ≡ values.now.end.bytes.now }
+    ensures { let d = values.now.end.bytes.now in Judged d (records_fields d) result (λ n. (n ≡ records_count d) × (text_head d ≤ length d)) }
 {
-    let count = word_at(bytes, head, Part::RecordsCount)?;
-    let f = Frame {
+    let head = values.end;
+    let count: u32 = head.field(0, Part::RecordsCount).number()?;
+    let first = head.at + 4;
+    let frame = Frame {
+        bytes: head.bytes,
         names: names.count,
         values,
-        limit: limit(bytes, head, count),
+        limit: u32::read(head.bytes, first + 24 * count as usize),
     };
-    let mut at = head + 4;
-    for _ in 0..count {
-        record(bytes, &f, at)?;
-        at += 24;
+    for i in 0..count {
+        let row = Row {
+            frame: &frame,
+            at: first + 24 * i as usize,
+        };
+        row.check()?;
     }
     Ok(count)
 }

@@ -52,20 +52,17 @@ const FIELDS: [(Part, usize, usize); 41] = [
 
 /// The field that is cut where the file ends before byte `end`.
 fn cut_field(end: usize) -> Option<(Part, usize)> {
-    for (part, first, size) in FIELDS {
-        if first.saturating_add(size) > end {
-            return Some((part, first));
-        }
-    }
-    None
+    let (part, first, _) = FIELDS
+        .iter()
+        .find(|(_, first, size)| first.saturating_add(*size) > end)?;
+    Some((*part, *first))
 }
 
 #[test]
 fn every_cut(rt: HostRuntime) -> Result<(), Fail> {
-    let bytes: &[u8] = &SMALL;
     for end in 0..99 {
         let mut file = HouseFile::empty();
-        let Err(bad) = file.read(&bytes[0..end]) else {
+        let Err(bad) = file.read(&SMALL[..end]) else {
             return Err(Fail::new("a cut file is good"));
         };
         let Some((part, first)) = cut_field(end) else {
@@ -73,8 +70,8 @@ fn every_cut(rt: HostRuntime) -> Result<(), Fail> {
         };
         assert_eq!(rt; bad.byte, first);
         assert_eq!(rt; bad.part, part);
-        assert!(rt; bad.cut);
-        assert_eq!(rt; bad.refusal, Refusal::Malformed);
+        assert!(rt; bad.is_cut());
+        assert_eq!(rt; bad.refusal(), Refusal::Malformed);
     }
     assert!(rt; matches!(cut_field(99), None));
     Ok(())

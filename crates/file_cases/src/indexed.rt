@@ -9,9 +9,8 @@ fn many_names() -> [u8; 1216] {
     let mut bytes = [0u8; 1216];
     bytes[0] = 88;
     bytes[1] = 2;
-    for i in 0..600usize {
-        bytes[4 + 2 * i] = 1;
-        bytes[5 + 2 * i] = b'a' + (i % 26) as u8;
+    for (i, name) in bytes[4..1204].chunks_exact_mut(2).enumerate() {
+        name.copy_from_slice(&[1, b'a' + (i % 26) as u8]);
     }
     bytes
 }

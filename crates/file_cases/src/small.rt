@@ -3,7 +3,6 @@ use file::fields::FileRecord;
 use file::house_file::HouseFile;
 use house::bad::BadFile;
 use kinds::document::{OpId, ScalarValue};
-use kinds::interfaces::Value;
 use sources::record::{Action, Diff};
 use std::process::Abort;
 use std::test::Fail;
@@ -48,7 +47,7 @@ fn what_it_holds(rt: HostRuntime) -> Result<(), Fail> {
     let Some(value) = file.value(0) else {
         return Err(Fail::new("no value"));
     };
-    assert!(rt; value.same(&ScalarValue::Boolean(true)));
+    assert!(rt; value == ScalarValue::Boolean(true));
     assert!(rt; matches!(file.value(1), None));
     assert!(rt; file.text() == b"00".as_slice());
     Ok(())

@@ -1,7 +1,8 @@
 //! The small file with one byte changed, for each field that has a rule.
 use crate::small::SMALL;
 use file::house_file::HouseFile;
-use house::bad::{BadFile, Part};
+use house::bad::{BadFile, Part, Wrong};
+use kinds::refusal::Refusal;
 use std::test::Fail;
 
 /// A byte that is changed, and what is then reported.
@@ -9,10 +10,11 @@ use std::test::Fail;
 struct Spoilt {
     at: usize,
     byte: u8,
+    // The number of the refusal, as the format gives it.
     number: u8,
     reported: usize,
     part: Part,
-    cut: bool,
+    wrong: Wrong,
 }
 
 const SPOILT: [Spoilt; 27] = [
@@ -23,7 +25,7 @@ const SPOILT: [Spoilt; 27] = [
         number: 15,
         reported: 4,
         part: Part::NameLength,
-        cut: false,
+        wrong: Wrong::Broken(Refusal::TooLong),
     },
     // ill-formed
     Spoilt {
@@ -32,7 +34,7 @@ const SPOILT: [Spoilt; 27] = [
         number: 1,
         reported: 5,
         part: Part::NameBytes,
-        cut: false,
+        wrong: Wrong::Broken(Refusal::IllFormedText),
     },
     // no such kind
     Spoilt {
@@ -41,7 +43,7 @@ const SPOILT: [Spoilt; 27] = [
         number: 14,
         reported: 13,
         part: Part::ValueKind,
-        cut: false,
+        wrong: Wrong::Broken(Refusal::Malformed),
     },
     // a type code
     Spoilt {
@@ -50,7 +52,7 @@ const SPOILT: [Spoilt; 27] = [
         number: 14,
         reported: 14,
         part: Part::TypeCode,
-        cut: false,
+        wrong: Wrong::Broken(Refusal::Malformed),
     },
     // a Boolean of two bytes
     Spoilt {
@@ -59,7 +61,7 @@ const SPOILT: [Spoilt; 27] = [
         number: 14,
         reported: 15,
         part: Part::ValueLength,
-        cut: false,
+        wrong: Wrong::Broken(Refusal::Malformed),
     },
     // a Boolean that is 2
     Spoilt {
@@ -68,7 +70,7 @@ const SPOILT: [Spoilt; 27] = [
         number: 14,
         reported: 16,
         part: Part::ValueBytes,
-        cut: false,
+        wrong: Wrong::Broken(Refusal::Malformed),
     },
     // no such tag
     Spoilt {
@@ -77,7 +79,7 @@ const SPOILT: [Spoilt; 27] = [
         number: 14,
         reported: 21,
         part: Part::Tag,
-        cut: false,
+        wrong: Wrong::Broken(Refusal::Malformed),
     },
     // no such action
     Spoilt {
@@ -86,7 +88,7 @@ const SPOILT: [Spoilt; 27] = [
         number: 14,
         reported: 22,
         part: Part::Action,
-        cut: false,
+        wrong: Wrong::Broken(Refusal::Malformed),
     },
     // a Set with a name
     Spoilt {
@@ -95,7 +97,7 @@ const SPOILT: [Spoilt; 27] = [
         number: 14,
         reported: 23,
         part: Part::NameNumber,
-        cut: false,
+        wrong: Wrong::Broken(Refusal::Malformed),
     },
     // a name that is not there
     Spoilt {
@@ -104,7 +106,7 @@ const SPOILT: [Spoilt; 27] = [
         number: 14,
         reported: 23,
         part: Part::NameNumber,
-        cut: false,
+        wrong: Wrong::Broken(Refusal::Malformed),
     },
     // a Mark with a name and a value that is not there
     Spoilt {
@@ -113,7 +115,7 @@ const SPOILT: [Spoilt; 27] = [
         number: 14,
         reported: 25,
         part: Part::ValueNumber,
-        cut: false,
+        wrong: Wrong::Broken(Refusal::Malformed),
     },
     // not 0
     Spoilt {
@@ -122,7 +124,7 @@ const SPOILT: [Spoilt; 27] = [
         number: 14,
         reported: 27,
         part: Part::FirstZero,
-        cut: false,
+        wrong: Wrong::Broken(Refusal::Malformed),
     },
     // not 0
     Spoilt {
@@ -131,7 +133,7 @@ const SPOILT: [Spoilt; 27] = [
         number: 14,
         reported: 28,
         part: Part::SecondZero,
-        cut: false,
+        wrong: Wrong::Broken(Refusal::Malformed),
     },
     // a Mark with a text start
     Spoilt {
@@ -140,7 +142,7 @@ const SPOILT: [Spoilt; 27] = [
         number: 14,
         reported: 37,
         part: Part::TextStart,
-        cut: false,
+        wrong: Wrong::Broken(Refusal::Malformed),
     },
     // a Mark with a text length
     Spoilt {
@@ -149,7 +151,7 @@ const SPOILT: [Spoilt; 27] = [
         number: 14,
         reported: 41,
         part: Part::TextLength,
-        cut: false,
+        wrong: Wrong::Broken(Refusal::Malformed),
     },
     // a Mark in place of the Set, which has a text
     Spoilt {
@@ -158,7 +160,7 @@ const SPOILT: [Spoilt; 27] = [
         number: 14,
         reported: 65,
         part: Part::TextLength,
-        cut: false,
+        wrong: Wrong::Broken(Refusal::Malformed),
     },
     // a text that begins past the text
     Spoilt {
@@ -167,7 +169,7 @@ const SPOILT: [Spoilt; 27] = [
         number: 14,
         reported: 61,
         part: Part::TextStart,
-        cut: false,
+        wrong: Wrong::Broken(Refusal::Malformed),
     },
     // a text that ends past it
     Spoilt {
@@ -176,7 +178,7 @@ const SPOILT: [Spoilt; 27] = [
         number: 14,
         reported: 65,
         part: Part::TextLength,
-        cut: false,
+        wrong: Wrong::Broken(Refusal::Malformed),
     },
     // a text that is longer than it
     Spoilt {
@@ -185,7 +187,7 @@ const SPOILT: [Spoilt; 27] = [
         number: 14,
         reported: 65,
         part: Part::TextLength,
-        cut: false,
+        wrong: Wrong::Broken(Refusal::Malformed),
     },
     // a block with a name
     Spoilt {
@@ -194,7 +196,7 @@ const SPOILT: [Spoilt; 27] = [
         number: 14,
         reported: 71,
         part: Part::NameNumber,
-        cut: false,
+        wrong: Wrong::Broken(Refusal::Malformed),
     },
     // a block with a value
     Spoilt {
@@ -203,7 +205,7 @@ const SPOILT: [Spoilt; 27] = [
         number: 14,
         reported: 73,
         part: Part::ValueNumber,
-        cut: false,
+        wrong: Wrong::Broken(Refusal::Malformed),
     },
     // no names: the name is read as the count of the values
     Spoilt {
@@ -212,7 +214,7 @@ const SPOILT: [Spoilt; 27] = [
         number: 14,
         reported: 8,
         part: Part::ValueKind,
-        cut: false,
+        wrong: Wrong::Broken(Refusal::Malformed),
     },
     // no values: the value is read as the count of the records
     Spoilt {
@@ -221,7 +223,7 @@ const SPOILT: [Spoilt; 27] = [
         number: 14,
         reported: 17,
         part: Part::Tag,
-        cut: false,
+        wrong: Wrong::Broken(Refusal::Malformed),
     },
     // four records: the text's count is read as a record
     Spoilt {
@@ -230,7 +232,7 @@ const SPOILT: [Spoilt; 27] = [
         number: 14,
         reported: 95,
         part: Part::NameNumber,
-        cut: false,
+        wrong: Wrong::Broken(Refusal::Malformed),
     },
     // two records: the third is read as the text
     Spoilt {
@@ -239,7 +241,7 @@ const SPOILT: [Spoilt; 27] = [
         number: 14,
         reported: 73,
         part: Part::Text,
-        cut: true,
+        wrong: Wrong::Cut,
     },
     // less text than the Set has
     Spoilt {
@@ -248,7 +250,7 @@ const SPOILT: [Spoilt; 27] = [
         number: 14,
         reported: 65,
         part: Part::TextLength,
-        cut: false,
+        wrong: Wrong::Broken(Refusal::Malformed),
     },
     // more text than there is
     Spoilt {
@@ -257,7 +259,7 @@ const SPOILT: [Spoilt; 27] = [
         number: 14,
         reported: 97,
         part: Part::Text,
-        cut: true,
+        wrong: Wrong::Cut,
     },
 ];
 
@@ -265,8 +267,8 @@ const SPOILT: [Spoilt; 27] = [
 fn every_field(rt: HostRuntime) -> Result<(), Fail> {
     for spoilt in SPOILT {
         let mut bytes = SMALL;
-        if spoilt.at < 99 {
-            bytes[spoilt.at] = spoilt.byte;
+        if let Some(byte) = bytes.get_mut(spoilt.at) {
+            *byte = spoilt.byte;
         }
         let mut file = HouseFile::empty();
         let Err(bad) = file.read(&bytes) else {
@@ -274,8 +276,8 @@ fn every_field(rt: HostRuntime) -> Result<(), Fail> {
         };
         assert_eq!(rt; bad.byte, spoilt.reported);
         assert_eq!(rt; bad.part, spoilt.part);
-        assert_eq!(rt; bad.cut, spoilt.cut);
-        assert_eq!(rt; bad.refusal.number(), spoilt.number);
+        assert_eq!(rt; bad.wrong, spoilt.wrong);
+        assert_eq!(rt; bad.refusal().number(), spoilt.number);
     }
     Ok(())
 }
@@ -283,6 +285,7 @@ fn every_field(rt: HostRuntime) -> Result<(), Fail> {
 /// A counter and an actor may be any.
 #[test]
 fn any_id(rt: HostRuntime) -> Result<(), Fail> {
+    // By number: the places of these bytes are what the test is about.
     for at in 29..37 {
         let mut bytes = SMALL;
         bytes[at] = 255;
@@ -325,9 +328,7 @@ fn a_set_with_a_value(rt: HostRuntime) -> Result<(), Fail> {
 /// The small file, and a byte behind it.
 fn with_one_more() -> [u8; 100] {
     let mut bytes = [0; 100];
-    for (i, b) in SMALL.iter().enumerate() {
-        bytes[i] = *b;
-    }
+    bytes[..99].copy_from_slice(&SMALL);
     bytes
 }
 
@@ -341,6 +342,6 @@ fn one_byte_more(rt: HostRuntime) -> Result<(), Fail> {
     };
     assert_eq!(rt; bad.byte, 99);
     assert_eq!(rt; bad.part, Part::End);
-    assert!(rt; !bad.cut);
+    assert!(rt; !bad.is_cut());
     Ok(())
 }

@@ -6,7 +6,6 @@ ghost use Rattle.house.specs.Held.{filed, name_found, value_found, found_by};
 ghost use Rattle.file.specs.Files.{file_bytes};
 ghost use Rattle.file_source.specs.Filed.{file_means};
 
-use file::fields::FileRecord;
 use file::house_file::HouseFile;
 use kinds::document::{OpId, ScalarValue, ShortStr};
 use sources::fault::Fault;
@@ -29,6 +28,7 @@ impl<'a> FileSource<'a> {
         FileSource { file, at: 0 }
     }
 
+    // A method in place of `and_then`: with that, what its closure answers stayed open, unless it repeats this clause.
     /// The name under a number, where there is one.
     fn name(&self, number: Option<u16>) -> Option<ShortStr>
         ensures { result ≡ found_by (name_found (file_bytes self.now.file)) number }
@@ -36,6 +36,7 @@ impl<'a> FileSource<'a> {
         self.file.name(number?)
     }
 
+    // As `name`.
     /// The value under a number, where there is one.
     fn value(&self, number: Option<u16>) -> Option<ScalarValue>
         ensures { result ≡ found_by (value_found (file_bytes self.now.file)) number }
@@ -78,6 +79,7 @@ impl<'a> Source for FileSource<'a> {
         byte_of(self.file.text(), first.text, place as usize)
     }
 
+    #[tactic(auto, using(crate::proofs::Filing::steps))]
     fn step(&mut self) {
         if self.at < self.file.records() {
             self.at += 1;

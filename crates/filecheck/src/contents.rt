@@ -1,43 +1,16 @@
 //! What a good file holds, as it is printed.
+use anyhow::Result;
 use file::house_file::HouseFile;
+use kinds::kind::ValueKind;
 use measures::code_points::CodePoints;
 use measures::judge::well_formed;
 use measures::measure::Measure;
-use measures::width::Width;
-use sources::record::Diff;
-use std::io;
-
-/// The most names or values that records can refer to.
-const REFERRED: u16 = 65535;
-
-/// The kinds of value, in the order of their numbers.
-const KINDS: [&str; 10] = [
-    "Bytes",
-    "Str",
-    "Int",
-    "Uint",
-    "F64",
-    "Counter",
-    "Timestamp",
-    "Boolean",
-    "Unknown",
-    "Null",
-];
-
-/// The actions, in the order of their numbers.
-const ACTIONS: [&str; 8] = [
-    "MakeMap",
-    "MakeList",
-    "MakeText",
-    "Set",
-    "Delete",
-    "Increment",
-    "MakeTable",
-    "Mark",
-];
+use sources::record::{Action, Diff};
+use std::collections::BTreeMap;
+use std::{fmt, io};
 
 /// How many records have each tag.
-#[derive(Clone, Copy)]
+#[derive(Clone, Copy, Default)]
 struct ByTag {
     same: u32,
     add: u32,
@@ -45,120 +18,111 @@ struct ByTag {
 }
 
 impl ByTag {
-    fn none() -> ByTag {
-        ByTag {
-            same: 0,
-            add: 0,
-            del: 0,
-        }
-    }
-
     fn count(&mut self, tag: Diff) {
-        match tag {
-            Diff::Same => self.same = self.same.saturating_add(1),
-            Diff::Add => self.add = self.add.saturating_add(1),
-            Diff::Del => self.del = self.del.saturating_add(1),
-        }
+        let column = match tag {
+            Diff::Same => &mut self.same,
+            Diff::Add => &mut self.add,
+            Diff::Del => &mut self.del,
+        };
+        *column = column.saturating_add(1);
+    }
+}
+
+impl fmt::Display for ByTag {
+    fn fmt<W: fmt::Write>(&self, f: &mut fmt::Formatter<W>) -> fmt::Result {
+        let ByTag { same, add, del } = *self;
+        write!(f, "{same} Same, {add} Add, {del} Del")
     }
 }
 
 /// How many of a section's items can be asked for by number.
 fn referred(count: u32) -> u16 {
-    if count < u32::from(REFERRED) {
-        count as u16
-    } else {
-        REFERRED
-    }
+    u16::try_from(count).unwrap_or(u16::MAX)
 }
 
 /// Prints how many items there are past those that records can refer to, if any.
 fn print_rest(rt: &HostRuntime, count: u32) -> io::Result<()> {
-    if count > u32::from(REFERRED) {
-        let rest = count - u32::from(REFERRED);
-        println!(rt; "  and {rest} more, to which no record can refer")?;
+    match count.saturating_sub(u32::from(u16::MAX)) {
+        0 => Ok(()),
+        rest => println!(rt; "  and {rest} more, to which no record can refer"),
     }
-    Ok(())
 }
 
-fn print_names(rt: &HostRuntime, file: &HouseFile<'_>) -> io::Result<()> {
-    let count = file.names();
-    println!(rt; "{count} names")?;
-    for i in 0..referred(count) {
-        if let Some(name) = file.name(i) {
+/// A good file, and where it is printed.
+#[derive(Clone, Copy)]
+pub(crate) struct Contents<'a> {
+    pub(crate) rt: &'a HostRuntime,
+    pub(crate) file: &'a HouseFile<'a>,
+}
+
+impl<'a> Contents<'a> {
+    fn print_names(&self) -> io::Result<()> {
+        let count = self.file.names();
+        println!(self.rt; "{count} names")?;
+        for (i, name) in (0..referred(count)).filter_map(|i| Some((i, self.file.name(i)?))) {
             let text = name.as_str();
-            println!(rt; "  {i} {text:?}")?;
+            println!(self.rt; "  {i} {text:?}")?;
+        }
+        print_rest(self.rt, count)
+    }
+
+    /// How many values there are of each kind.
+    fn by_kind(&self) -> Result<BTreeMap<ValueKind, u32>> {
+        let mut numbers = BTreeMap::new(self.rt.alloc());
+        for value in (0..referred(self.file.values())).filter_map(|i| self.file.value(i)) {
+            let number: &mut u32 = numbers.entry(value.kind())?.or_insert(0);
+            *number = number.saturating_add(1);
+        }
+        Ok(numbers)
+    }
+
+    fn print_values(&self) -> Result<()> {
+        let count = self.file.values();
+        println!(self.rt; "{count} values")?;
+        for (kind, number) in &self.by_kind()? {
+            println!(self.rt; "  {number} {kind}")?;
+        }
+        print_rest(self.rt, count)?;
+        Ok(())
+    }
+
+    /// How many records of each action have each tag.
+    fn by_action(&self) -> Result<BTreeMap<Action, ByTag>> {
+        let mut numbers = BTreeMap::new(self.rt.alloc());
+        for record in (0..self.file.records()).filter_map(|i| self.file.record(i)) {
+            let by_tag: &mut ByTag = numbers.entry(record.action)?.or_default();
+            by_tag.count(record.tag);
+        }
+        Ok(numbers)
+    }
+
+    fn print_records(&self) -> Result<()> {
+        let count = self.file.records();
+        println!(self.rt; "{count} records")?;
+        for (action, by_tag) in &self.by_action()? {
+            println!(self.rt; "  {action}: {by_tag}")?;
+        }
+        Ok(())
+    }
+
+    fn print_text(&self) -> io::Result<()> {
+        let text = self.file.text();
+        let bytes = text.len();
+        if !well_formed(text) {
+            return println!(self.rt; "{bytes} bytes of text, not well-formed as a whole");
+        }
+        match CodePoints.width(text) {
+            Some(points) => println!(self.rt; "{bytes} bytes of text, {points} code points"),
+            None => println!(self.rt; "{bytes} bytes of text, more than 4294967295 code points"),
         }
     }
-    print_rest(rt, count)
-}
 
-/// How many values there are of each kind.
-fn by_kind(file: &HouseFile<'_>) -> [u32; 10] {
-    let mut numbers = [0u32; 10];
-    for i in 0..referred(file.values()) {
-        if let Some(value) = file.value(i) {
-            let kind = value.kind_number() as usize;
-            if kind < 10 {
-                numbers[kind] = numbers[kind].saturating_add(1);
-            }
-        }
+    /// Prints the names, the values by kind, the records by action and tag, and the size of the text.
+    pub(crate) fn print(&self) -> Result<()> {
+        self.print_names()?;
+        self.print_values()?;
+        self.print_records()?;
+        self.print_text()?;
+        Ok(())
     }
-    numbers
-}
-
-fn print_values(rt: &HostRuntime, file: &HouseFile<'_>) -> io::Result<()> {
-    let count = file.values();
-    println!(rt; "{count} values")?;
-    let numbers = by_kind(file);
-    for (i, kind) in KINDS.iter().enumerate() {
-        let number = numbers[i];
-        if number > 0 {
-            println!(rt; "  {number} {kind}")?;
-        }
-    }
-    print_rest(rt, count)
-}
-
-/// How many records of an action have each tag.
-fn counted(file: &HouseFile<'_>, action: u8) -> ByTag {
-    let mut by_tag = ByTag::none();
-    for i in 0..file.records() {
-        if let Some(record) = file.record(i) {
-            if record.action.number() == action {
-                by_tag.count(record.tag);
-            }
-        }
-    }
-    by_tag
-}
-
-fn print_records(rt: &HostRuntime, file: &HouseFile<'_>) -> io::Result<()> {
-    let count = file.records();
-    println!(rt; "{count} records")?;
-    for (number, action) in ACTIONS.iter().enumerate() {
-        let ByTag { same, add, del } = counted(file, number as u8);
-        if same > 0 || add > 0 || del > 0 {
-            println!(rt; "  {action}: {same} Same, {add} Add, {del} Del")?;
-        }
-    }
-    Ok(())
-}
-
-fn print_text(rt: &HostRuntime, text: &[u8]) -> io::Result<()> {
-    let bytes = text.len();
-    if !well_formed(text) {
-        return println!(rt; "{bytes} bytes of text, not well-formed as a whole");
-    }
-    match CodePoints.width(text) {
-        Width::Fits(points) => println!(rt; "{bytes} bytes of text, {points} code points"),
-        Width::Larger => println!(rt; "{bytes} bytes of text, more than 4294967295 code points"),
-    }
-}
-
-/// Prints the names, the values by kind, the records by action and tag, and the size of the text.
-pub(crate) fn print_contents(rt: &HostRuntime, file: &HouseFile<'_>) -> io::Result<()> {
-    print_names(rt, file)?;
-    print_values(rt, file)?;
-    print_records(rt, file)?;
-    print_text(rt, file.text())
 }

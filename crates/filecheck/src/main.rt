@@ -4,10 +4,8 @@
 mod contents;
 #[cfg(test)]
 mod tests;
-mod wrong;
 
-use crate::contents::print_contents;
-use crate::wrong::print_report;
+use crate::contents::Contents;
 use file::house_file::HouseFile;
 use std::io::Read;
 
@@ -17,8 +15,11 @@ fn run(rt: &HostRuntime) -> anyhow::Result<()> {
     let bytes = input.as_slice();
     let mut file = HouseFile::empty();
     match file.read(bytes) {
-        Ok(()) => print_contents(rt, &file)?,
-        Err(bad) => print_report(rt, bad)?,
+        Ok(()) => Contents { rt, file: &file }.print()?,
+        Err(bad) => {
+            let number = bad.refusal().number();
+            println!(rt; "refused with {number} at {bad}")?;
+        }
     }
     Ok(())
 }

@@ -4,15 +4,16 @@ use Rattle.kinds.specs.declared.value.ScalarValue.{ScalarValue}
 use Rattle.kinds.specs.declared.value.ScalarValue.TheVariants as scalar
 use Rattle.kinds.specs.Values.{kind_number}
 use Rattle.kinds.proofs.Makings.{short_there, text_there}
-use Rattle.sources.specs.Tags.{tag_number, action_number}
-use Rattle.house.specs.declared.kind.ValueKind.{ValueKind}
-use Rattle.house.specs.declared.kind.ValueKind.TheVariants.{Bytes, Str, Int, Uint, F64, Counter, Timestamp, Boolean, Unknown, Null}
+use Rattle.kinds.specs.Kinds.{code_of, kind_of}
+use Rattle.sources.specs.Tags.{tag_number, tag_of, action_number, action_of}
+use Rattle.kinds.specs.declared.kind.ValueKind.{ValueKind}
+use Rattle.kinds.specs.declared.kind.ValueKind.TheVariants.{Bytes, Str, Int, Uint, F64, Counter, Timestamp, Boolean, Unknown, Null}
 use Rattle.house.specs.Fields.{AllGood, byte, slice, le16, le32}
 use Rattle.house.specs.Names.{names_count, name_place, name_at, name_row}
-use Rattle.house.specs.Values.{code_of, kind_of, LengthOf, Content, values_count, value_place, value_row}
+use Rattle.house.specs.Values.{LengthOf, Content, values_count, value_place, value_row}
 use Rattle.house.specs.Records.{none, set_action, HasText, NameRule, ValueRule, LengthRule, records_count, record_place, record_row, text_head, text_count}
 use Rattle.house.specs.House.{fields, text_at, text_place}
-use Rattle.house.specs.Held.{mapped, value_of, name_found, value_found, number_given, found_by, tag_of, action_of, text_placed}
+use Rattle.house.specs.Held.{mapped, value_of, name_found, value_found, number_given, found_by, text_placed}
 use Rattle.house.specs.Holds.{Written, NameHeld, ValueHeld, RecordHeld, Holds}
 use Rattle.house.proofs.Rows.{each_at}
 use Rattle.house.proofs.Slices.{slice_most, slice_length, slice_first, slice_le64}

@@ -3,10 +3,9 @@ use Rattle.std.proofs.Common.{◌≡◌, refl}
 use Rattle.kinds.specs.Values.{kind_number}
 use Rattle.kinds.specs.declared.value.ScalarValue.{ScalarValue}
 use Rattle.kinds.specs.declared.value.ScalarValue.TheVariants as scalar
-use Rattle.house.specs.declared.kind.ValueKind.{ValueKind}
-use Rattle.house.specs.declared.kind.ValueKind.TheVariants.{Bytes, Str, Int, Uint, F64, Counter, Timestamp, Boolean, Unknown, Null}
-use Rattle.house.specs.Values.{code_of, kind_of}
-use Rattle.house.specs.Order.{scalar_kind}
+use Rattle.kinds.specs.declared.kind.ValueKind.{ValueKind}
+use Rattle.kinds.specs.declared.kind.ValueKind.TheVariants.{Bytes, Str, Int, Uint, F64, Counter, Timestamp, Boolean, Unknown, Null}
+use Rattle.kinds.specs.Kinds.{code_of, kind_of, scalar_kind}
 
 -- a kind is known by its number
 pub known_by_number : (k : ValueKind) → kind_of (code_of k) ≡ k

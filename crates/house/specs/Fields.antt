@@ -1,8 +1,9 @@
 -- A file is a list of fields, each at its place; of the first that is bad or cut there is a report. Assumes nothing.
-use Rattle.std.specs.Prelude.{◌≡◌, ℕ, zero, suc, ◌+◌, ◌*◌, ◌<◌, ◌≤◌, true, false, ◌⊎◌, List, [], ◌∷◌, ◌++◌, length, take, drop, Result, MatchResult, slice_index}
+use Rattle.std.specs.Prelude.{◌≡◌, ℕ, zero, suc, ◌+◌, ◌*◌, ◌<◌, ◌≤◌, ◌⊎◌, List, [], ◌∷◌, ◌++◌, length, take, drop, Result, MatchResult, slice_index}
 use Rattle.kinds.specs.declared.refusal.Refusal.{Refusal}
 use Rattle.kinds.specs.declared.refusal.Refusal.TheVariants.{Malformed}
 use Rattle.house.specs.declared.bad.Part.{Part}
+use Rattle.house.specs.declared.bad.Wrong.TheVariants as wrongs
 use Rattle.house.specs.declared.bad.BadFile.{BadFile}
 
 -- A field.
@@ -20,11 +21,11 @@ pub record Field : Type 1 where
 
 -- The report of a cut field: it is malformed, whatever its rule.
 abbrev pub cut_at : Part → ℕ → BadFile
-cut_at part place = record { part = part; cut = true; refusal = Malformed; byte = place }
+cut_at part place = record { part = part; wrong = wrongs.Cut; byte = place }
 
 -- The report of a field that is whole and breaks its rule.
 abbrev pub broken_at : Part → Refusal → ℕ → BadFile
-broken_at part cause place = record { part = part; cut = false; refusal = cause; byte = place }
+broken_at part cause place = record { part = part; wrong = wrongs.Broken cause; byte = place }
 
 -- All bytes of a field are there.
 abbrev pub Whole : List ℕ → Field → Type 0

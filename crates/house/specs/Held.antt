@@ -1,5 +1,5 @@
 -- What a file holds: its names, its values, and its records as a source means them. Assumes nothing.
-use Rattle.std.specs.Prelude.{ℕ, zero, suc, ◌+◌, ◌-◌, ◌*◌, cond, ◌&&◌, List, [], ◌∷◌, ℤ, Some, None, Option, ◌==◌, nat_lt, slice_index_or}
+use Rattle.std.specs.Prelude.{ℕ, zero, suc, ◌+◌, ◌-◌, ◌*◌, cond, ◌&&◌, List, [], ◌∷◌, ℤ, Some, None, Option, ◌==◌, nat_lt}
 use Rattle.std.specs.Int.{w64}
 use Rattle.std.proofs.Common.{to_z}
 use Rattle.kinds.specs.declared.document.OpId.{OpId}
@@ -7,16 +7,14 @@ use Rattle.kinds.specs.declared.text.ShortStr.{ShortStr}
 use Rattle.kinds.specs.declared.value.ScalarValue.{ScalarValue}
 use Rattle.kinds.specs.declared.value.ScalarValue.TheVariants as scalar
 use Rattle.kinds.specs.Making.{short_from, text_from}
+use Rattle.sources.specs.Tags.{tag_of, action_of}
 use Rattle.sources.specs.Meaning.{Entry, Meaning, plain}
-use Rattle.sources.specs.declared.record.Diff.{Diff}
-use Rattle.sources.specs.declared.record.Diff.TheVariants.{Same, Add, Del}
-use Rattle.sources.specs.declared.record.Action.{Action}
-use Rattle.sources.specs.declared.record.Action.TheVariants.{MakeMap, MakeList, MakeText, Set, Delete, Increment, MakeTable, Mark}
-use Rattle.house.specs.declared.kind.ValueKind.{ValueKind}
-use Rattle.house.specs.declared.kind.ValueKind.TheVariants.{Bytes, Str, Int, Uint, F64, Counter, Timestamp, Boolean, Unknown, Null}
+use Rattle.kinds.specs.declared.kind.ValueKind.{ValueKind}
+use Rattle.kinds.specs.declared.kind.ValueKind.TheVariants.{Bytes, Str, Int, Uint, F64, Counter, Timestamp, Boolean, Unknown, Null}
 use Rattle.house.specs.Fields.{byte, slice, le16, le32}
 use Rattle.house.specs.Names.{names_count, name_at}
-use Rattle.house.specs.Values.{values_count, value_place, kind_of}
+use Rattle.kinds.specs.Kinds.{kind_of}
+use Rattle.house.specs.Values.{values_count, value_place}
 use Rattle.house.specs.Records.{none, set_action, records_count, record_place}
 use Rattle.house.specs.House.{text_at}
 
@@ -41,7 +39,7 @@ value_of Bytes d code p n = mapped scalar.Bytes (short_from (slice d p n))
 value_of Str d code p n = mapped scalar.Str (text_from (slice d p n))
 value_of Int d code p n = Some (scalar.Int (signed_at d p))
 value_of Uint d code p n = Some (scalar.Uint (le64 d p))
-value_of F64 d code p n = Some (scalar.F64 (le64 d p))
+value_of F64 d code p n = Some (scalar.F64 (record { bits = le64 d p }))
 value_of Counter d code p n = Some (scalar.Counter (signed_at d p))
 value_of Timestamp d code p n = Some (scalar.Timestamp (signed_at d p))
 value_of Boolean d code p n = Some (scalar.Boolean (byte d p == 1))
@@ -68,14 +66,6 @@ number_given n = cond (n == none) None (Some n)
 abbrev pub found_by : {A : Type 0} → (ℕ → Option A) → Option ℕ → Option A
 found_by find None = None
 found_by find (Some n) = find n
-
--- The tag of a number; no good file has one above 2.
-abbrev pub tag_of : ℕ → Diff
-tag_of n = slice_index_or (Same ∷ Add ∷ Del ∷ []) n Del
-
--- The action of a number; no good file has one above 7.
-abbrev pub action_of : ℕ → Action
-action_of n = slice_index_or (MakeMap ∷ MakeList ∷ MakeText ∷ Set ∷ Delete ∷ Increment ∷ MakeTable ∷ Mark ∷ []) n Mark
 
 -- The text of a record: only a Set without a value has one.
 abbrev pub text_placed : List ℕ → ℕ → ℕ → ℕ → ℕ → Option (List ℕ)

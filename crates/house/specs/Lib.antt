@@ -1,3 +1,5 @@
+pub mod Reports
+pub mod Words
 pub mod Fields
 pub mod Items
 pub mod Names

@@ -2,12 +2,10 @@
 use Rattle.std.specs.Prelude.{◌≡◌, ℕ, ◌+◌, ◌≤◌, ◌⊎◌, List, [], ◌∷◌}
 use Rattle.kinds.specs.Values.{kind_number}
 use Rattle.kinds.specs.declared.value.ScalarValue.{ScalarValue}
-use Rattle.kinds.specs.declared.value.ScalarValue.TheVariants as scalar
+use Rattle.kinds.specs.Kinds.{code_of, kind_of, scalar_kind}
 use Rattle.house.specs.declared.bad.BadFile.{BadFile}
-use Rattle.house.specs.declared.kind.ValueKind.{ValueKind}
-use Rattle.house.specs.declared.kind.ValueKind.TheVariants.{Bytes, Str, Int, Uint, F64, Counter, Timestamp, Boolean, Unknown, Null}
+use Rattle.kinds.specs.declared.kind.ValueKind.{ValueKind}
 use Rattle.house.specs.Fields.{Field, Bad, AllGood, FirstBad}
-use Rattle.house.specs.Values.{code_of, kind_of}
 use Rattle.house.specs.House.{fields, file_end}
 
 -- The fields follow one another from p to q, without a gap.
@@ -19,19 +17,6 @@ Follow p (f ∷ fs) q = (f.place ≡ p) × Follow (p + f.size) fs q
 abbrev pub SomeBad : List ℕ → List Field → BadFile → Type 0
 SomeBad d [] e = ⊥
 SomeBad d (f ∷ fs) e = Bad d f e ⊎ SomeBad d fs e
-
--- The kind of a value of the document.
-abbrev pub scalar_kind : ScalarValue → ValueKind
-scalar_kind (scalar.Bytes s) = Bytes
-scalar_kind (scalar.Str s) = Str
-scalar_kind (scalar.Int n) = Int
-scalar_kind (scalar.Uint n) = Uint
-scalar_kind (scalar.F64 bits) = F64
-scalar_kind (scalar.Counter n) = Counter
-scalar_kind (scalar.Timestamp n) = Timestamp
-scalar_kind (scalar.Boolean b) = Boolean
-scalar_kind (scalar.Unknown code s) = Unknown
-scalar_kind scalar.Null = Null
 
 -- The fields of any file follow one another from its first byte to its end; a file is not both good and reported;
 -- it has no two reports; and of all the fields that are bad or cut the one reported has the least byte.

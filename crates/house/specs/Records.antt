@@ -2,7 +2,7 @@
 use Rattle.std.specs.Prelude.{◌≡◌, ℕ, ◌+◌, ◌*◌, ◌<◌, ◌≤◌, ◌⊎◌, List, [], ◌∷◌, ◌++◌, length, ◌≢◌}
 use Rattle.kinds.specs.declared.refusal.Refusal.TheVariants.{Malformed}
 use Rattle.house.specs.declared.bad.Part.TheVariants as parts
-use Rattle.house.specs.declared.kind.ValueKind.TheVariants.{Str}
+use Rattle.kinds.specs.declared.kind.ValueKind.TheVariants.{Str}
 use Rattle.house.specs.Fields.{Field, byte, le16, le32, any, each}
 use Rattle.house.specs.Names.{names_count}
 use Rattle.house.specs.Values.{value_place, values_count, kind_at}

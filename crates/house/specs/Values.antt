@@ -1,35 +1,15 @@
 -- The values: each is its kind, a type code, a length byte and as many bytes. Assumes nothing.
-use Rattle.std.specs.Prelude.{◌≡◌, ℕ, ◌+◌, ◌≤◌, ◌⊎◌, List, [], ◌∷◌, length, slice_index, slice_index_or}
+use Rattle.std.specs.Prelude.{◌≡◌, ℕ, ◌+◌, ◌≤◌, ◌⊎◌, List, [], ◌∷◌, length, slice_index}
 use Rattle.measures.specs.Rfc3629.{Utf8Octets}
 use Rattle.kinds.specs.declared.refusal.Refusal.{Refusal}
 use Rattle.kinds.specs.declared.refusal.Refusal.TheVariants.{IllFormedText, Malformed, TooLong}
 use Rattle.house.specs.declared.bad.Part.TheVariants as parts
-use Rattle.house.specs.declared.kind.ValueKind.{ValueKind}
-use Rattle.house.specs.declared.kind.ValueKind.TheVariants.{Bytes, Str, Int, Uint, F64, Counter, Timestamp, Boolean, Unknown, Null}
+use Rattle.kinds.specs.declared.kind.ValueKind.{ValueKind}
+use Rattle.kinds.specs.declared.kind.ValueKind.TheVariants.{Bytes, Str, Int, Uint, F64, Counter, Timestamp, Boolean, Unknown, Null}
+use Rattle.kinds.specs.Kinds.{kind_of}
 use Rattle.house.specs.Fields.{Field, byte, slice, le32}
 use Rattle.house.specs.Items.{item_place, item_row, items_fields}
 use Rattle.house.specs.Names.{name_place, names_count}
-
--- The number of each kind.
-abbrev pub code_of : ValueKind → ℕ
-code_of Bytes = 0
-code_of Str = 1
-code_of Int = 2
-code_of Uint = 3
-code_of F64 = 4
-code_of Counter = 5
-code_of Timestamp = 6
-code_of Boolean = 7
-code_of Unknown = 8
-code_of Null = 9
-
--- The kinds, in the order of their numbers.
-abbrev pub all_kinds : List ValueKind
-all_kinds = Bytes ∷ Str ∷ Int ∷ Uint ∷ F64 ∷ Counter ∷ Timestamp ∷ Boolean ∷ Unknown ∷ Null ∷ []
-
--- The kind of a number; a number above 9, which no good file has, counts as that of Null.
-abbrev pub kind_of : ℕ → ValueKind
-kind_of n = slice_index_or all_kinds n Null
 
 -- Only an unknown value has a type code that is not 0.
 abbrev pub CodeRule : ValueKind → ℕ → Type 0

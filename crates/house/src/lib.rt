@@ -2,5 +2,5 @@
 #![tactic(auto)]
 
 pub mod bad;
-pub mod kind;
 pub mod theorem;
+mod words;

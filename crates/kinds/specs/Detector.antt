@@ -1,8 +1,8 @@
 -- The detector kind: places, channels and grades. Assumes nothing.
 use Rattle.std.specs.Prelude.{◌-◌, Bool, cond, Some, None, Option, ◌==◌, nat_lt}
-use Rattle.kinds.specs.declared.detector.DetectorId.{DetectorId}
-use Rattle.kinds.specs.declared.detector.Channel.{Channel}
-use Rattle.kinds.specs.declared.detector.Grade.{Grade}
+use Rattle.kinds.specs.declared.place.DetectorId.{DetectorId}
+use Rattle.kinds.specs.declared.channel.Channel.{Channel}
+use Rattle.kinds.specs.declared.grade.Grade.{Grade}
 
 -- Places go by their numbers.
 abbrev pub place_below : DetectorId → DetectorId → Bool

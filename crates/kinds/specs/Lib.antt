@@ -2,11 +2,16 @@ pub mod Order
 pub mod Refusals
 pub mod Operations
 pub mod Detector
+pub mod Ranks
 pub mod Contents
 pub mod Names
+pub mod Floats
+pub mod Decoding
+pub mod Kinds
 pub mod Values
 pub mod Padding
 pub mod Making
 pub mod Spellings
 pub mod ContentsLemmas
 pub mod Equalities
+pub mod Plain

@@ -1,18 +1,18 @@
 -- The order of names by their bytes: a total order, in which only equal names tie. Assumes nothing.
-use Rattle.std.specs.Prelude.{◌≡◌, ℕ, ◌<◌, true, false, List, [], ◌∷◌, refl}
+use Rattle.std.specs.Prelude.{◌≡◌, ℕ, ◌<◌, true, false, ◌&&◌, Decides, nat_eq, List, [], ◌∷◌, refl}
 use Rattle.std.specs.declared.cmp.Ordering.TheVariants.{Less, Equal, Greater}
 use Rattle.std.specs.declared.cmp.Ordering.{Ordering}
-use Rattle.std.proofs.Common.{ap, arith}
-use Rattle.std.specs.Ordering.{MatchOrdering, nat_cmp, ordering_then}
+use Rattle.std.proofs.Common.{sym, ap, ◌∙◌, arith}
+use Rattle.std.specs.Ordering.{MatchOrdering, nat_cmp, ordering_then, is_eq, on}
 use Rattle.std.specs.Cmp.{ranked as numbers_ranked}
-use Rattle.std.specs.Cmp.Lexicographic.{slice_cmp}
-use Rattle.std.proofs.lemmas.Bool.Decides.{nat_tests}
+use Rattle.std.specs.Cmp.Lexicographic.{slice_cmp, pointwise}
+use Rattle.std.proofs.lemmas.Bool.Decides.{nat_tests, Decides-like, same_from_decides}
 use denote.Struct.Record.{values_one}
 use Rattle.kinds.specs.declared.text.ShortStr.{ShortStr}
 use Rattle.kinds.specs.contracts.short.ShortBytes.{the_row}
 use Rattle.kinds.specs.contracts.text.ShortStr.{struct, the_propositions}
 use Rattle.kinds.specs.Names.{bytes_below, spelled, name_below}
-use Rattle.kinds.specs.ContentsLemmas.{same_bytes}
+use Rattle.kinds.specs.ContentsLemmas.{same_bytes, held_test}
 
 pub not_below_itself : (xs : List ℕ) → bytes_below xs xs ≡ false
 not_below_itself [] = refl
@@ -64,3 +64,19 @@ of_names a b Greater h = h
 -- The same of names, whose bytes were compared.
 pub ranked_names : (a b : ShortStr) (xs ys : List ℕ) (r : Ordering) → xs ≡ spelled a → ys ≡ spelled b → r ≡ slice_cmp nat_cmp xs ys → MatchOrdering r (name_below a b ≡ true) (a ≡ b) (name_below b a ≡ true)
 ranked_names a b xs ys r p q h = of_names a b r (rw (h, p, q) (ranked (spelled a) (spelled b)))
+
+-- What is answered of two names is `Equal` where they are the same,
+tie_test : (a b : ShortStr) (r : Ordering) → MatchOrdering r (name_below a b ≡ true) (a ≡ b) (name_below b a ≡ true) → Decides (is_eq r) (a ≡ b)
+tie_test a b Less h = (λ z. cc, λ e. sym (not_below_itself (spelled a)) ∙ (ap (λ s. name_below a s) e ∙ h))
+tie_test a b Equal h = (λ z. h, λ e. refl)
+tie_test a b Greater h = (λ z. cc, λ e. sym (not_below_itself (spelled a)) ∙ (ap (λ s. name_below s a) e ∙ h))
+
+-- which is what `==` tests;
+pub text_test : (a b : ShortStr) → Decides (pointwise nat_eq a.short.held b.short.held && nat_eq a.short.len b.short.len) (a ≡ b)
+text_test a b =
+    Decides-like _ (λ e. values_one struct (the_propositions the_row.coded) a b (ap (λ s. (s, tt)) e)) (λ e. ap (λ s. s.short) e) (held_test a.short b.short)
+
+-- so the two agree.
+pub ties_are_equal : (a b : ShortStr) → (pointwise nat_eq a.short.held b.short.held && nat_eq a.short.len b.short.len) ≡ is_eq (on spelled (slice_cmp nat_cmp) a b)
+ties_are_equal a b =
+    same_from_decides _ _ (text_test a b) (tie_test a b _ (ranked_names a b _ _ _ refl refl refl))

@@ -2,6 +2,7 @@
 use Rattle.std.specs.Prelude.{ℕ, Bool, cond, ◌&&◌, List, [], ◌∷◌, ℤ, pos, negsuc, ◌==◌}
 use Rattle.std.specs.Str.{bytes_eq}
 use Rattle.kinds.specs.Contents.{content}
+use Rattle.kinds.specs.Floats.{one_zero}
 use Rattle.kinds.specs.Names.{spelled}
 use Rattle.kinds.specs.declared.value.ScalarValue.{ScalarValue}
 use Rattle.kinds.specs.declared.value.ScalarValue.TheVariants.{Bytes, Str, Int, Uint, F64, Counter, Timestamp, Boolean, Unknown, Null}
@@ -12,16 +13,12 @@ kind_number (Bytes s) = 0
 kind_number (Str s) = 1
 kind_number (Int n) = 2
 kind_number (Uint n) = 3
-kind_number (F64 bits) = 4
+kind_number (F64 f) = 4
 kind_number (Counter n) = 5
 kind_number (Timestamp n) = 6
 kind_number (Boolean b) = 7
 kind_number (Unknown code s) = 8
 kind_number Null = 9
-
--- The bits of a float; those of -0.0 count as those of 0.0.
-abbrev pub one_zero : ℕ → ℕ
-one_zero bits = cond (bits == 9223372036854775808) 0 bits
 
 -- The value, with the sign of a zero left out.
 abbrev pub unsigned_zero : ScalarValue → ScalarValue
@@ -29,7 +26,7 @@ unsigned_zero (Bytes s) = Bytes s
 unsigned_zero (Str s) = Str s
 unsigned_zero (Int n) = Int n
 unsigned_zero (Uint n) = Uint n
-unsigned_zero (F64 bits) = F64 (one_zero bits)
+unsigned_zero (F64 f) = F64 (record { bits = one_zero f.bits })
 unsigned_zero (Counter n) = Counter n
 unsigned_zero (Timestamp n) = Timestamp n
 unsigned_zero (Boolean b) = Boolean b
@@ -47,7 +44,7 @@ compared (Bytes s) = content s
 compared (Str s) = spelled s
 compared (Int n) = sided n
 compared (Uint n) = n ∷ []
-compared (F64 bits) = one_zero bits ∷ []
+compared (F64 f) = one_zero f.bits ∷ []
 compared (Counter n) = sided n
 compared (Timestamp n) = sided n
 compared (Boolean b) = cond b 1 0 ∷ []

@@ -1,14 +1,11 @@
 //! Short bytes made and read.
-ghost use Rattle.std.specs.Prelude.{◌≡◌, ◌<◌, length, nat_eq, Decides, MatchResult};
+ghost use Rattle.std.specs.Prelude.{◌≡◌, ◌<◌, length, MatchResult};
 ghost use Rattle.kinds.specs.Contents.{content};
 ghost use Rattle.kinds.specs.Making.{short_from};
 ghost use Rattle.kinds.specs.declared.refusal.Refusal.TheVariants.{TooLong};
 ghost use Rattle.std.specs.Result.{result_ok};
-ghost use Rattle.std.specs.Cmp.Rules.{comparing};
-ghost use Rattle.std.specs.Ordering.{on};
-ghost use Rattle.std.specs.Cmp.Lexicographic.{pointwise};
-ghost use Rattle.std.proofs.Common.{rules};
 
+use crate::padded::padded;
 use crate::refusal::Refusal;
 use crate::short::ShortBytes;
 
@@ -18,13 +15,9 @@ impl ShortBytes {
         ensures content { MatchResult result (λ s. content s ≡ bytes.now) (λ e. (e ≡ TooLong) × (32 < length bytes.now)) }
         ensures made { result_ok result ≡ short_from bytes.now }
     {
-        if bytes.len() > 32 {
+        let Some(held) = padded(bytes, 0) else {
             return Err(Refusal::TooLong);
-        }
-        let mut held = [0; 32];
-        for (i, b) in bytes.iter().enumerate() {
-            held[i] = *b;
-        }
+        };
         Ok(ShortBytes {
             held,
             len: bytes.len() as u8,
@@ -36,23 +29,6 @@ impl ShortBytes {
         ensures { result.now ≡ content self.now }
     {
         let all: &[u8] = &self.held;
-        &all[0..self.len as usize]
+        &all[..usize::from(self.len)]
     }
-}
-
-impl PartialEq for ShortBytes {
-    ghost eq = { on content (pointwise nat_eq) };
-
-    ghost laws = { Prim.search (comparing, rules) };
-
-    fn eq(&self, other: &ShortBytes) -> bool
-        ensures gives { result ≡ on content (pointwise nat_eq) self.now other.now }
-        ensures decides { Decides result (self.now ≡ other.now) }
-    {
-        self.bytes() == other.bytes()
-    }
-}
-
-impl Eq for ShortBytes {
-    ghost laws = { Prim.search (comparing, rules) };
 }

@@ -1,38 +1,33 @@
 //! The document kind: operations are its ids, short texts its names, scalar values its values.
 ghost use Rattle.kinds.specs.Operations.{op_below, op_previous};
+ghost use Rattle.kinds.specs.Ranks.{operations_ranked};
 ghost use Rattle.std.proofs.Common.{rules};
 
-use crate::interfaces::Id;
+pub use crate::float::FloatBits;
+use crate::interfaces::{Id, Ordered};
 pub use crate::short::ShortBytes;
 pub use crate::text::ShortStr;
 pub use crate::value::ScalarValue;
-use std::cmp::Ordering;
 
 /// An operation of a document: the counter of its actor, and the actor.
-#[derive(Clone, Copy, PartialEq, Eq, Debug)]
+#[derive(Clone, Copy, PartialEq, Eq, PartialOrd, Ord, Debug)]
 pub struct OpId {
     pub counter: u32,
     pub actor: u32,
 }
 
-impl Id for OpId {
+impl Ordered for OpId {
     ghost below = { op_below };
 
+    ghost orders = { record { ordered = Prim.search rules; answers = operations_ranked } };
+}
+
+impl Id for OpId {
     ghost actor = { λ id. id.actor };
 
     ghost counter = { λ id. id.counter };
 
     ghost previous = { op_previous };
-
-    ghost ordered = { Prim.search rules };
-
-    /// By counter, then by actor.
-    fn order(&self, other: &OpId) -> Ordering {
-        match self.counter.cmp(&other.counter) {
-            Ordering::Equal => self.actor.cmp(&other.actor),
-            unequal => unequal,
-        }
-    }
 
     fn actor(&self) -> usize {
         self.actor as usize

@@ -1,16 +1,17 @@
 //! Short texts made, read and ordered: the names of the document kind.
-ghost use Rattle.std.specs.Prelude.{◌≡◌, nat_eq, Decides, MatchResult};
+ghost use Rattle.std.specs.Prelude.{◌≡◌, MatchResult, refl};
 ghost use Rattle.kinds.specs.Making.{text_from};
 ghost use Rattle.kinds.specs.Names.{spelled, name_below, Unfit};
 ghost use Rattle.measures.specs.Rfc3629.{Utf8Octets};
 ghost use Rattle.std.specs.Result.{result_ok};
+ghost use Rattle.std.specs.Cmp.{partial_order_from_agreeing_total};
 ghost use Rattle.std.specs.Cmp.Rules.{comparing};
-ghost use Rattle.std.specs.Ordering.{on};
-ghost use Rattle.std.specs.Cmp.Lexicographic.{pointwise};
+ghost use Rattle.std.specs.Ordering.{on, nat_cmp, as_partial_cmp};
+ghost use Rattle.std.specs.Cmp.Lexicographic.{slice_cmp};
 ghost use Rattle.std.proofs.Common.{rules};
-ghost use Rattle.kinds.specs.Spellings.{not_below_itself, below_passes_on, one_where_none_below, same_text};
+ghost use Rattle.kinds.specs.Spellings.{not_below_itself, below_passes_on, one_where_none_below, same_text, ranked_names, ties_are_equal};
 
-use crate::interfaces::Name;
+use crate::interfaces::{Name, Ordered};
 use crate::refusal::Refusal;
 use crate::short::ShortBytes;
 use crate::text::ShortStr;
@@ -47,34 +48,43 @@ impl ShortStr {
     }
 }
 
-impl PartialEq for ShortStr {
-    ghost eq = { on spelled (pointwise nat_eq) };
+// The order by hand: a derived one is the same, but that zeros behind the bytes change nothing is more to show than this is to write.
+impl PartialOrd for ShortStr {
+    ghost partial_cmp = { as_partial_cmp (on spelled (slice_cmp nat_cmp)) };
 
-    ghost laws = { Prim.search (comparing, rules) };
+    ghost laws = { partial_order_from_agreeing_total (on spelled (slice_cmp nat_cmp)) (Prim.search (comparing, rules)) (λ _ _. refl) ties_are_equal };
 
-    fn eq(&self, other: &ShortStr) -> bool
-        ensures gives { result ≡ on spelled (pointwise nat_eq) self.now other.now }
-        ensures decides { Decides result (self.now ≡ other.now) }
-    {
-        self.short == other.short
+    fn partial_cmp(&self, other: &ShortStr) -> Option<Ordering> {
+        Some(self.cmp(other))
     }
 }
 
-impl Eq for ShortStr {
-    ghost laws = { Prim.search (comparing, rules) };
-}
+impl Ord for ShortStr {
+    ghost cmp = { on spelled (slice_cmp nat_cmp) };
 
-impl Name for ShortStr {
-    ghost below = { name_below };
+    ghost total = { Prim.search (comparing, rules) };
 
-    ghost ordered = { record {
-      irreflexive = λ a. not_below_itself (spelled a);
-      transitive = λ a b c. below_passes_on (spelled a) (spelled b) (spelled c);
-      total = λ a b h k. same_text a b (one_where_none_below (spelled a) (spelled b) h k);
-    } };
+    ghost matches_partial_cmp = { Prim.search (comparing, rules) };
+
+    ghost matches_eq = { ties_are_equal };
 
     /// By bytes, a prefix first.
-    fn order(&self, other: &ShortStr) -> Ordering {
+    fn cmp(&self, other: &ShortStr) -> Ordering {
         self.bytes().cmp(other.bytes())
     }
 }
+
+impl Ordered for ShortStr {
+    ghost below = { name_below };
+
+    ghost orders = { record {
+      ordered = record {
+        irreflexive = λ a. not_below_itself (spelled a);
+        transitive = λ a b c. below_passes_on (spelled a) (spelled b) (spelled c);
+        total = λ a b h k. same_text a b (one_where_none_below (spelled a) (spelled b) h k);
+      };
+      answers = λ a b. ranked_names a b _ _ _ refl refl refl;
+    } };
+}
+
+impl Name for ShortStr {}

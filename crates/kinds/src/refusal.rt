@@ -1,22 +1,25 @@
 //! Why a call is refused.
-ghost use Rattle.std.specs.Prelude.{◌≡◌};
+ghost use Rattle.std.specs.Prelude.{◌≡◌, Some};
 ghost use Rattle.kinds.specs.Refusals.{number, words};
+
+use std::error::Error;
+use std::fmt;
 
 /// The cause of a refusal. Each cause has one number and one sentence.
 #[derive(Clone, Copy, PartialEq, Eq, Debug)]
 pub enum Refusal {
     /// Ill-formed UTF-8, in text or in a name or text value being made.
-    IllFormedText,
+    IllFormedText = 1,
     /// No open place is free, and the id is not yet open.
-    NoOpenPlace,
+    NoOpenPlace = 3,
     /// The id that is ended has no predecessor.
-    NoPredecessor,
+    NoPredecessor = 6,
     /// A clock has no number for the actor.
-    ActorUnknown,
+    ActorUnknown = 9,
     /// A house file, or the place of a text, is malformed.
-    Malformed,
+    Malformed = 14,
     /// A name or byte value of more than 32 bytes.
-    TooLong,
+    TooLong = 15,
 }
 
 impl Refusal {
@@ -24,20 +27,14 @@ impl Refusal {
     pub fn number(self) -> u8
         ensures { result ≡ number self }
     {
-        match self {
-            Refusal::IllFormedText => 1,
-            Refusal::NoOpenPlace => 3,
-            Refusal::NoPredecessor => 6,
-            Refusal::ActorUnknown => 9,
-            Refusal::Malformed => 14,
-            Refusal::TooLong => 15,
-        }
+        self as u8
     }
 
     /// The cause in one sentence.
     pub fn words(self) -> &'static str
         ensures { result.now ≡ words self }
     {
+        // By hand: what a derive writes has no promise, and these words have one.
         match self {
             Refusal::IllFormedText => "The bytes are not well-formed UTF-8.",
             Refusal::NoOpenPlace => "No open place is free.",
@@ -48,3 +45,13 @@ impl Refusal {
         }
     }
 }
+
+impl fmt::Display for Refusal {
+    ghost output = { λ cause. Some (words cause) };
+
+    fn fmt<W: fmt::Write>(&self, f: &mut fmt::Formatter<W>) -> fmt::Result {
+        f.write_str(self.words())
+    }
+}
+
+impl Error for Refusal {}

@@ -1,6 +1,6 @@
 pub mod Orders
 pub mod Lists
-pub mod Halves
+pub mod Searched
 pub mod Values
 pub mod Entries
 pub mod Placed

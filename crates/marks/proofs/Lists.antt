@@ -1,6 +1,5 @@
 -- Members of lists, and what holds of each. Assumes nothing.
-use Rattle.std.proofs.Common.{◌≡◌, ℕ, zero, suc, ◌<◌, ◌≤◌, List, [], ◌∷◌, ◌++◌, length, get_or, drop, Some, None, sym, refl, subst, inl, inr, arith}
-use Rattle.std.proofs.lemmas.List.{drop_all}
+use Rattle.std.proofs.Common.{◌≡◌, ℕ, zero, suc, ◌<◌, ◌≤◌, List, [], ◌∷◌, ◌++◌, length, get_or, Some, None, sym, refl, subst, inl, inr, arith}
 use Rattle.std.specs.List.{slice_get}
 use Rattle.marks.specs.Lists.{◌∈◌, Each}
 
@@ -25,9 +24,6 @@ pub each_at : {A : Type 0} (P : A → Type 0) (xs : List A) (k : ℕ) (d : A) �
 each_at P [] k d h lt = absurd (omega arith)
 each_at P (x ∷ xs) zero d h lt = h.0
 each_at P (x ∷ xs) (suc k) d h lt = each_at P xs k d h.1 (omega arith)
-
-pub each_past : {A : Type 0} (P : A → Type 0) (xs : List A) (n : ℕ) → length xs ≤ n → Each P (drop n xs)
-each_past P xs n le = subst (λ l. Each P l) (sym (drop_all n xs le)) tt
 
 pub each_nth : {A : Type 0} (P : A → Type 0) (xs : List A) (k : ℕ) (x : A) → Each P xs → slice_get xs k ≡ Some x → P x
 each_nth P [] k x h at = let z : ◌≡◌ {A = ℕ} 0 1 = cc in absurd (omega arith)

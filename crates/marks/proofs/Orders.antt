@@ -1,7 +1,8 @@
 -- What the laws of an order give. Assumes nothing.
-use Rattle.std.proofs.Common.{◌≡◌, Bool, true, false, not, subst, ⊎_elim}
+use Rattle.std.proofs.Common.{◌≡◌, Bool, true, false, not, Ordering, Less, Equal, Greater, sym, refl, ◌∙◌, subst, ⊎_elim}
 use Rattle.std.proofs.lemmas.Bool.{cases_Bool, both_ways, and_parts, not-true}
-use Rattle.kinds.specs.Order.{TotalOrder}
+use Rattle.std.specs.Ordering.{MatchOrdering, is_eq}
+use Rattle.kinds.specs.Order.{TotalOrder, OrderedBy}
 use Rattle.marks.specs.Open.{alike}
 
 module _ {A : Type 0} {below : A → A → Bool} (order : TotalOrder below) where
@@ -22,3 +23,12 @@ module _ {A : Type 0} {below : A → A → Bool} (order : TotalOrder below) wher
 
   pub not_alike : (x y : A) → (x ≡ y → ⊥) → alike below x y ≡ false
   not_alike x y ne = ⊎_elim (λ t. absurd (ne (alike_one x y t))) (λ f. f) (cases_Bool (alike below x y))
+
+-- where an equality holds just where a comparison ties, it holds of two of which neither is below the other
+pub same_alike : {A : Type 0} {cmp : A → A → Ordering} {eq below : A → A → Bool} → OrderedBy cmp below → ((x y : A) → eq x y ≡ is_eq (cmp x y)) → (x y : A) → eq x y ≡ alike below x y
+same_alike {A} {cmp} {eq} {below} orders ties x y = ties x y ∙ by_answer (cmp x y) (orders.answers x y)
+  where
+    by_answer : (r : Ordering) → MatchOrdering r (below x y ≡ true) (x ≡ y) (below y x ≡ true) → is_eq r ≡ alike below x y
+    by_answer Less h = rw h refl
+    by_answer Equal h = sym (one_alike orders.ordered x y h)
+    by_answer Greater h = rw (asym orders.ordered y x h, h) refl

@@ -2,38 +2,39 @@
 use Rattle.std.proofs.Common.{◌≡◌, Bool, true, cond, ◌⊎◌, List, [], ◌∷◌, sym, refl, ap, ◌∙◌, subst, inl, inr}
 use Rattle.std.proofs.lemmas.Bool.{cond_both, both_ways}
 use Rattle.kinds.specs.Order.{TotalOrder}
-use Rattle.marks.specs.Lists.{◌∈◌, Each, Rising, placed, kept}
+use Rattle.marks.specs.Lists.{◌∈◌, Each, Rising, placed}
+use Rattle.std.specs.List.{filter}
 use Rattle.marks.proofs.Lists.{each_in, in_each}
 use Rattle.marks.proofs.Orders.{apart}
 
 module _ {A : Type 0} (test : A → Bool) where
-  kept_each : (P : A → Type 0) (xs : List A) → Each P xs → Each P (kept test xs)
+  kept_each : (P : A → Type 0) (xs : List A) → Each P xs → Each P (filter test xs)
   kept_each P [] h = tt
-  kept_each P (x ∷ xs) h = cond_both (test x) (x ∷ kept test xs) (kept test xs) (Each P) (λ _. (h.0, kept_each P xs h.1)) (λ _. kept_each P xs h.1)
+  kept_each P (x ∷ xs) h = cond_both (test x) (x ∷ filter test xs) (filter test xs) (Each P) (λ _. (h.0, kept_each P xs h.1)) (λ _. kept_each P xs h.1)
 
-  pub kept_rising : (R : A → A → Type 0) (xs : List A) → Rising R xs → Rising R (kept test xs)
+  pub kept_rising : (R : A → A → Type 0) (xs : List A) → Rising R xs → Rising R (filter test xs)
   kept_rising R [] h = tt
-  kept_rising R (x ∷ xs) h = cond_both (test x) (x ∷ kept test xs) (kept test xs) (Rising R) (λ _. (kept_each (R x) xs h.0, kept_rising R xs h.1)) (λ _. kept_rising R xs h.1)
+  kept_rising R (x ∷ xs) h = cond_both (test x) (x ∷ filter test xs) (filter test xs) (Rising R) (λ _. (kept_each (R x) xs h.0, kept_rising R xs h.1)) (λ _. kept_rising R xs h.1)
 
-  pub kept_out : (xs : List A) (z : A) → z ∈ kept test xs → (z ∈ xs) × (test z ≡ true)
+  pub kept_out : (xs : List A) (z : A) → z ∈ filter test xs → (z ∈ xs) × (test z ≡ true)
   kept_out [] z a = absurd a
   kept_out (x ∷ xs) z a =
-      cond_both (test x) (x ∷ kept test xs) (kept test xs) (λ (l : List A). z ∈ l → (z ∈ (x ∷ xs)) × (test z ≡ true))
+      cond_both (test x) (x ∷ filter test xs) (filter test xs) (λ (l : List A). z ∈ l → (z ∈ (x ∷ xs)) × (test z ≡ true))
       (λ t b. front (λ c. kept_out xs z c) t b) (λ _ b. let r = kept_out xs z b in (inr r.0, r.1)) a
     where
-      front : (z ∈ kept test xs → (z ∈ xs) × (test z ≡ true)) → test x ≡ true → z ∈ (x ∷ kept test xs) → (z ∈ (x ∷ xs)) × (test z ≡ true)
+      front : (z ∈ filter test xs → (z ∈ xs) × (test z ≡ true)) → test x ≡ true → z ∈ (x ∷ filter test xs) → (z ∈ (x ∷ xs)) × (test z ≡ true)
       front rest t (inl e) = (inl e, subst (λ (y : A). test y ≡ true) (sym e) t)
       front rest t (inr b) = let r = rest b in (inr r.0, r.1)
 
-  pub kept_in : (xs : List A) (z : A) → z ∈ xs → test z ≡ true → z ∈ kept test xs
+  pub kept_in : (xs : List A) (z : A) → z ∈ xs → test z ≡ true → z ∈ filter test xs
   kept_in [] z a t = absurd a
-  kept_in (x ∷ xs) z (inl e) t = cond_both (test x) (x ∷ kept test xs) (kept test xs) (λ (l : List A). z ∈ l) (λ _. inl e) (λ f. absurd (both_ways (test x) f (subst (λ (y : A). test y ≡ true) e t)))
-  kept_in (x ∷ xs) z (inr a) t = cond_both (test x) (x ∷ kept test xs) (kept test xs) (λ (l : List A). z ∈ l) (λ _. inr (kept_in xs z a t)) (λ _. kept_in xs z a t)
+  kept_in (x ∷ xs) z (inl e) t = cond_both (test x) (x ∷ filter test xs) (filter test xs) (λ (l : List A). z ∈ l) (λ _. inl e) (λ f. absurd (both_ways (test x) f (subst (λ (y : A). test y ≡ true) e t)))
+  kept_in (x ∷ xs) z (inr a) t = cond_both (test x) (x ∷ filter test xs) (filter test xs) (λ (l : List A). z ∈ l) (λ _. inr (kept_in xs z a t)) (λ _. kept_in xs z a t)
 
   -- where each passes, each is kept
-  pub kept_all : (xs : List A) → Each (λ x. test x ≡ true) xs → kept test xs ≡ xs
+  pub kept_all : (xs : List A) → Each (λ x. test x ≡ true) xs → filter test xs ≡ xs
   kept_all [] h = refl
-  kept_all (x ∷ xs) h = cond_both (test x) (x ∷ kept test xs) (kept test xs) (λ (l : List A). l ≡ x ∷ xs) (λ _. ap (λ (l : List A). x ∷ l) (kept_all xs h.1)) (λ f. absurd (both_ways (test x) f h.0))
+  kept_all (x ∷ xs) h = cond_both (test x) (x ∷ filter test xs) (filter test xs) (λ (l : List A). l ≡ x ∷ xs) (λ _. ap (λ (l : List A). x ∷ l) (kept_all xs h.1)) (λ f. absurd (both_ways (test x) f h.0))
 
 module _ {A B : Type 0} {below : B → B → Bool} (order : TotalOrder below) (key : A → B) where
   abbrev R : A → A → Type 0

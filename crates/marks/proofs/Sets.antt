@@ -1,11 +1,13 @@
 -- The set of open marks: the last mark under a name is its greatest, and the entries miss none. Assumes nothing.
-use Rattle.std.proofs.Common.{◌≡◌, ℕ, ◌+◌, ◌-◌, ◌<◌, ◌≤◌, Bool, true, false, cond, ◌&&◌, ◌⊎◌, List, [], ◌∷◌, length, get_or, drop, Some, None, Option, sym, refl, ap, ◌∙◌, subst, inl, inr, ⊎_elim, arith}
-use Rattle.std.proofs.lemmas.List.{drop_more}
+use Rattle.std.proofs.Common.{◌≡◌, ℕ, Bool, true, false, cond, ◌&&◌, ◌⊎◌, List, [], ◌∷◌, ◌++◌, length, Some, None, Option, sym, refl, ap, ◌∙◌, subst, inl, inr, ⊎_elim, arith}
+use Rattle.std.specs.List.{slice_get}
+use Rattle.std.proofs.lemmas.List.{append_assoc}
 use Rattle.std.proofs.lemmas.Bool.{both_ways}
 use Rattle.kinds.specs.Order.{TotalOrder}
 use Rattle.marks.specs.Lists.{◌∈◌, Rising}
 use Rattle.marks.specs.Open.{alike, Ascending}
-use Rattle.marks.specs.Set.{or_else, under, given, entry_of, entries, ValueOf, IsSet}
+use Rattle.std.specs.Option.{option_or}
+use Rattle.marks.specs.Set.{under, given, entry_of, entries, ValueOf, IsSet, EntryAt}
 use Rattle.marks.specs.Past.{past, ahead, first_past, EntryPast}
 use Rattle.marks.specs.declared.mark.OpenMark.{OpenMark}
 use Rattle.marks.specs.declared.mark.Entry.{Entry}
@@ -28,7 +30,7 @@ module _ {I N V : Type 0} {ids : I → I → Bool} {names : N → N → Bool} (i
   value_is [] n h = λ o a _. absurd a
   value_is (m ∷ ms) n h = go (given names ms n) (value_is ms n h.1) (alike names m.name n) refl
     where
-      go : (r : Option V) → ValueOf ids ms n r → (t : Bool) → alike names m.name n ≡ t → ValueOf ids (m ∷ ms) n (or_else r (cond t (Some m.value) None))
+      go : (r : Option V) → ValueOf ids ms n r → (t : Bool) → alike names m.name n ≡ t → ValueOf ids (m ∷ ms) n (option_or r (cond t (Some m.value) None))
       go (Some v) found t e =
           let o = found.0 in
           let greatest = found.1 in (
@@ -88,15 +90,15 @@ module _ {I N V : Type 0} {ids : I → I → Bool} {names : N → N → Bool} (i
     none n new None e = e
 
     out : (e : Entry N V) → (e ∈ entries names ms) ⊎ ((e ≡ entry_of m) × ((u : Entry N V) → u ∈ entries names ms → u.name ≡ m.name → ⊥)) → given names (m ∷ ms) e.name ≡ Some e.value
-    out e (inl a) = ap (λ (r : Option V). or_else r (under names m e.name)) (rest.0 e a)
+    out e (inl a) = ap (λ (r : Option V). option_or r (under names m e.name)) (rest.0 e a)
     out e (inr (same, new)) =
         let nm : e.name ≡ m.name = ap (λ (u : Entry N V). u.name) same in
         let at : given names ms m.name ≡ None = none m.name new (given names ms m.name) refl in
         let here : given names (m ∷ ms) m.name ≡ Some m.value =
-        ap (λ (r : Option V). or_else r (under names m m.name)) at ∙ ap (λ (t : Bool). cond t (Some m.value) None) (alike_itself order m.name) in
+        ap (λ (r : Option V). option_or r (under names m m.name)) at ∙ ap (λ (t : Bool). cond t (Some m.value) None) (alike_itself order m.name) in
         ap (λ (n : N). given names (m ∷ ms) n) nm ∙ here ∙ ap (λ (u : Entry N V). Some u.value) (sym same)
 
-    into : (n : N) (v : V) (r : Option V) → given names ms n ≡ r → (t : Bool) → alike names m.name n ≡ t → or_else r (cond t (Some m.value) None) ≡ Some v → Has (m ∷ ms) n v
+    into : (n : N) (v : V) (r : Option V) → given names ms n ≡ r → (t : Bool) → alike names m.name n ≡ t → option_or r (cond t (Some m.value) None) ≡ Some v → Has (m ∷ ms) n v
     into n v (Some w) e t q is = placed_old order (λ (u : Entry N V). u.name) (entry_of m) (entries names ms) _ (rest.1 n v (e ∙ is))
     into n v None e true q is =
         let nm : m.name ≡ n = alike_one order m.name n q in
@@ -125,16 +127,29 @@ module _ {I N V : Type 0} {ids : I → I → Bool} {names : N → N → Bool} (i
     );
   }
 
-  -- the first entry past a name, where one mark more stands in front: m stands at i - 1
-  pub next_step : (last : Option N) (ms : List (OpenMark I N V)) (i : ℕ) (m : OpenMark I N V) → 0 < i → i ≤ length ms → m ≡ get_or ms (i - 1) m → (best : Option (Entry N V)) → best ≡ first_past names last (entries names (drop i ms))
-      → first_past names last (entries names (drop (i - 1) ms)) ≡ cond (past names last m.name && ahead names best m.name) (Some (entry_of m)) best
-  next_step last ms i m some within read best so_far =
-      let back : i - 1 + 1 ≡ i = omega arith in
-      let front : drop (i - 1) ms ≡ m ∷ drop i ms =
-      drop_more ms (i - 1) m (omega arith) ∙ ap (λ (k : ℕ). get_or ms (i - 1) m ∷ drop k ms) back ∙ ap (λ (o : OpenMark I N V). o ∷ drop i ms) (sym read) in
-      ap (λ (l : List (OpenMark I N V)). first_past names last (entries names l)) front
-      ∙ better order last (entry_of m) (entries names (drop i ms)) (entries_rise (drop i ms))
-      ∙ ap (λ (b : Option (Entry N V)). cond (past names last m.name && ahead names b m.name) (Some (entry_of m)) b) (sym so_far)
+  -- what stands at a place among the entries is the entry of the set there
+  pub entry_at : (ms : List (OpenMark I N V)) (k : ℕ) (r : Option (Entry N V)) → r ≡ slice_get (entries names ms) k → Ascending ids ms → EntryAt ids names ms k r
+  entry_at ms k r here h = record { whole = entries names ms; is_set = entries_set ms h; here = here }
+
+  -- from the end of the marks, all but the rest have been seen, and best is the first of their entries past a name
+  abbrev pub Seen : Option N → (marks rest : List (OpenMark I N V)) → Option (Entry N V) → Type 0
+  Seen last marks rest best = (seen : List (OpenMark I N V)) × (marks ≡ rest ++ seen) × (best ≡ first_past names last (entries names seen))
+
+  -- one mark more has been seen
+  pub seen_more : (last : Option N) (marks rest rest' : List (OpenMark I N V)) (m : OpenMark I N V) (best : Option (Entry N V)) (improves : Bool) → Seen last marks rest best → rest ≡ rest' ++ m ∷ []
+      → improves ≡ (past names last m.name && ahead names best m.name) → Seen last marks rest' (cond improves (Some (entry_of m)) best)
+  seen_more last marks rest rest' m best improves (seen, split, so_far) one told = (
+    m ∷ seen,
+    split ∙ ap (λ (l : List (OpenMark I N V)). l ++ seen) one ∙ append_assoc rest' (m ∷ []) seen,
+    ap (λ (t : Bool). cond t (Some (entry_of m)) best) told
+        ∙ ap (λ (b : Option (Entry N V)). cond (past names last m.name && ahead names b m.name) (Some (entry_of m)) b) so_far
+        ∙ sym (better order last (entry_of m) (entries names seen) (entries_rise seen)),
+  )
+
+  -- all have been seen
+  pub seen_all : (last : Option N) (marks rest : List (OpenMark I N V)) (best : Option (Entry N V)) → Seen last marks rest best → length rest ≡ 0 → best ≡ first_past names last (entries names marks)
+  seen_all last marks [] best (seen, split, so_far) none = rw split so_far
+  seen_all last marks (m ∷ rest) best seen none = absurd (omega (arith, none))
 
   -- the first entry past a name is what the set has there
   pub entry_past : (last : Option N) (ms : List (OpenMark I N V)) → Ascending ids ms → EntryPast ids names ms last (first_past names last (entries names ms))

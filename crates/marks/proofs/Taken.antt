@@ -1,11 +1,13 @@
 -- What a begin and an end owe, from where the search found the id. Assumes nothing.
-use Rattle.std.proofs.Common.{◌≡◌, ℕ, zero, suc, ◌<◌, ◌≤◌, Bool, false, List, [], ◌∷◌, length, get_or, Ok, Err, Decides, sym, refl, ap, ◌∙◌, subst, arith}
+use Rattle.std.proofs.Common.{◌≡◌, ℕ, zero, suc, ◌<◌, ◌≤◌, Bool, false, List, [], ◌∷◌, length, get_or, true, Some, None, Ok, Err, Option, Result, Decides, sym, refl, ap, ◌∙◌, subst, arith}
 use Rattle.std.specs.List.{insert, remove}
+use Rattle.std.specs.Result.{is_ok}
 use Rattle.std.proofs.lemmas.Bool.{false≢true}
-use Rattle.places.specs.Changes.{Inserts}
+use Rattle.places.specs.Changes.{Inserts, Removes}
 use Rattle.places.specs.declared.places.NoPlace.{NoPlace}
 use Rattle.places.specs.declared.places.NoPlace.TheVariants.{Full, Outside}
-use Rattle.kinds.specs.Order.{TotalOrder, Equality}
+use Rattle.std.specs.Cmp.{IsEquivalence}
+use Rattle.kinds.specs.Order.{TotalOrder}
 use Rattle.kinds.specs.declared.refusal.Refusal.TheVariants.{NoOpenPlace}
 use Rattle.marks.specs.Open.{Ascending, begun, ended, Opens, Closes, Found}
 use Rattle.marks.specs.Set.{Differ}
@@ -20,7 +22,7 @@ put_back [] k x lt e = absurd (omega arith)
 put_back (y ∷ ys) zero x lt e = ap (λ z. z ∷ ys) e
 put_back (y ∷ ys) (suc k) x lt e = ap (λ l. y ∷ l) (put_back ys k x (omega arith) e)
 
-module _ {I N V : Type 0} {ids : I → I → Bool} (id-order : TotalOrder ids) {names : N → N → Bool} (order : TotalOrder names) {equal : V → V → Bool} (q : Equality equal) where
+module _ {I N V : Type 0} {ids : I → I → Bool} (id-order : TotalOrder ids) {names : N → N → Bool} (order : TotalOrder names) {equal : V → V → Bool} (q : IsEquivalence equal) where
   unchanged : (ms : List (OpenMark I N V)) → Decides false (Differ names equal ms ms)
   unchanged ms = ((λ e. absurd (false≢true e)), (λ d. absurd (differ_itself order q ms d)))
 
@@ -65,7 +67,25 @@ module _ {I N V : Type 0} {ids : I → I → Bool} (id-order : TotalOrder ids) {
         tells = unchanged ms;
       }
 
+-- an insertion where the search found no such id leaves the marks in their order, and a refused one leaves them
+pub inserts_ascends : {I N V U : Type 0} {ids : I → I → Bool} (order : TotalOrder ids) (ms ms' : List (OpenMark I N V)) (places k : ℕ) (m : OpenMark I N V) (r : Result U NoPlace) → Ascending ids ms → Found ids ms m.id (Err k) → Inserts ms places k m r ms' → Ascending ids ms'
+inserts_ascends {ids} order ms ms' places k m (Ok u) sorted found h = subst (λ l. Ascending ids l) (sym (h.2 ∙ begun_between order ms k m found)) (begun_opens order ms m sorted).in_order
+inserts_ascends {ids} order ms ms' places k m (Err Full) sorted found h = subst (λ l. Ascending ids l) (sym h.2) sorted
+inserts_ascends {ids} order ms ms' places k m (Err Outside) sorted found h = subst (λ l. Ascending ids l) (sym h.1) sorted
+
+-- what a removal leaves keeps its order
+pub removes_ascends : {I N V : Type 0} {ids : I → I → Bool} (order : TotalOrder ids) (ms ms' : List (OpenMark I N V)) (k : ℕ) (i : I) (r : Option (OpenMark I N V)) → Ascending ids ms → Found ids ms i (Ok k) → Removes ms k r ms' → Ascending ids ms'
+removes_ascends {ids} order ms ms' k i (Some m) sorted found h = subst (λ l. Ascending ids l) (sym (h.2 ∙ ended_at order ms k i sorted found)) (ended_closes order ms i sorted).in_order
+removes_ascends {ids} order ms ms' k i None sorted found h = subst (λ l. Ascending ids l) (sym h.1) sorted
+
 -- an insertion within the items is refused only where all places are in use
-pub full_only : {X : Type 0} (xs ys : List X) (places at : ℕ) (x : X) (e : NoPlace) → at ≤ length xs → Inserts {U = Unit {0}} xs places at x (Err e) ys → (length xs ≡ places) × (ys ≡ xs)
-full_only xs ys places at x Full within h = (h.1, h.2)
-full_only xs ys places at x Outside within h = absurd (omega (arith, h.0))
+pub full_only : {X U : Type 0} (xs ys : List X) (places at : ℕ) (x : X) (r : Result U NoPlace) → is_ok r ≡ false → at ≤ length xs → Inserts xs places at x r ys → (length xs ≡ places) × (ys ≡ xs)
+full_only xs ys places at x (Ok u) bad within h = absurd (false≢true (sym bad))
+full_only xs ys places at x (Err Full) bad within h = (h.1, h.2)
+full_only xs ys places at x (Err Outside) bad within h = absurd (omega (arith, h.0))
+
+-- and one that is not refused puts the item in
+pub put_in : {X U : Type 0} (xs ys : List X) (places at : ℕ) (x : X) (r : Result U NoPlace) → is_ok r ≡ true → Inserts xs places at x r ys → ys ≡ insert xs at x
+put_in xs ys places at x (Ok u) good h = h.2
+put_in xs ys places at x (Err Full) good h = absurd (false≢true good)
+put_in xs ys places at x (Err Outside) good h = absurd (false≢true good)

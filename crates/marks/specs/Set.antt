@@ -1,15 +1,11 @@
 -- The set that open marks give: each name has the value of its greatest open id. Assumes nothing.
 use Rattle.std.specs.Prelude.{◌≡◌, ℕ, Bool, true, cond, ◌↔◌, List, [], ◌∷◌, Some, None, Option, ◌≢◌}
 use Rattle.std.specs.List.{slice_get}
+use Rattle.std.specs.Option.{option_or}
 use Rattle.marks.specs.Lists.{◌∈◌, Rising, placed}
 use Rattle.marks.specs.Open.{alike}
 use Rattle.marks.specs.declared.mark.OpenMark.{OpenMark}
 use Rattle.marks.specs.declared.mark.Entry.{Entry}
-
--- the first where there is one, else the second
-abbrev pub or_else : {V : Type 0} → Option V → Option V → Option V
-or_else (Some v) w = Some v
-or_else None w = w
 
 -- the value of the mark, if it has the name
 abbrev pub under : {I N V : Type 0} → (N → N → Bool) → OpenMark I N V → N → Option V
@@ -18,7 +14,7 @@ under names m n = cond (alike names m.name n) (Some m.value) None
 -- the value of the last mark under a name: of the greatest id, where the marks ascend
 abbrev pub given : {I N V : Type 0} → (N → N → Bool) → List (OpenMark I N V) → N → Option V
 given names [] n = None
-given names (m ∷ ms) n = or_else (given names ms n) (under names m n)
+given names (m ∷ ms) n = option_or (given names ms n) (under names m n)
 
 -- a mark as an entry: its name and value, without the id
 abbrev pub entry_of : {I N V : Type 0} → OpenMark I N V → Entry N V

@@ -1,57 +1,31 @@
 //! The set that open marks give: each name has the value of its greatest open id.
 ghost use Rattle.std.specs.Prelude.{◌≡◌, ◌&&◌};
 ghost use Rattle.std.specs.List.{slice_get};
-ghost use Rattle.marks.specs.Open.{alike, Ascending};
+ghost use Rattle.marks.specs.Open.{Ascending};
 ghost use Rattle.marks.specs.Set.{given, entries, ValueOf, EntryAt};
 ghost use Rattle.marks.specs.Past.{past, ahead, first_past, EntryPast};
 
 use crate::mark::{Entry, OpenMark};
 use kinds::interfaces::{Id, Name, Value};
-use std::cmp::Ordering;
-
-/// Whether two names are one.
-fn named<N: Name>(a: &N, b: &N) -> bool
-    ensures { result ≡ alike N.Name.below a.now b.now }
-{
-    matches!(a.order(b), Ordering::Equal)
-}
-
-/// Whether one name is below another.
-fn earlier<N: Name>(a: &N, b: &N) -> bool
-    ensures { result ≡ N.Name.below a.now b.now }
-{
-    matches!(a.order(b), Ordering::Less)
-}
 
 /// The value of the last mark under a name.
 pub(crate) fn last_value<I: Id, N: Name, V: Value>(
     marks: &[OpenMark<I, N, V>],
     name: N,
 ) -> Option<V>
-    ensures { result ≡ given N.Name.below marks.now name }
+    ensures { result ≡ given N.below marks.now name }
 {
-    for i in (0..marks.len()).rev() {
-        let mark = &marks[i];
-        if named(&mark.name, &name) {
-            return Some(mark.value);
-        }
-    }
-    None
+    marks
+        .iter()
+        .rfind(|mark| mark.name == name)
+        .map(|mark| mark.value)
 }
 
 /// Whether a name is past `last` and ahead of `best`, where there are such.
 fn improves<N: Name, V: Value>(last: Option<N>, best: Option<Entry<N, V>>, name: &N) -> bool
-    ensures { result ≡ (past N.Name.below last name.now && ahead N.Name.below best name.now) }
+    ensures { result ≡ (past N.below last name.now && ahead N.below best name.now) }
 {
-    let beyond = match last {
-        Some(passed) => earlier(&passed, name),
-        None => true,
-    };
-    let better = match best {
-        Some(entry) => earlier(name, &entry.name),
-        None => true,
-    };
-    beyond & better
+    last.is_none_or(|passed| passed < *name) && best.is_none_or(|entry| *name < entry.name)
 }
 
 /// The first entry of the set past a name.
@@ -59,11 +33,10 @@ fn next_entry<I: Id, N: Name, V: Value>(
     marks: &[OpenMark<I, N, V>],
     last: Option<N>,
 ) -> Option<Entry<N, V>>
-    ensures { result ≡ first_past N.Name.below last (entries N.Name.below marks.now) }
+    ensures { result ≡ first_past N.below last (entries N.below marks.now) }
 {
     let mut best = None;
-    for i in (0..marks.len()).rev() {
-        let mark = &marks[i];
+    for mark in marks.iter().rev() {
         if improves(last, best, &mark.name) {
             best = Some(Entry {
                 name: mark.name,
@@ -75,6 +48,7 @@ fn next_entry<I: Id, N: Name, V: Value>(
 }
 
 /// The set of open marks, by name.
+// Any slice may be given, so the order of its marks is a premise of what its calls promise.
 #[derive(Clone, Copy)]
 pub struct MarkSet<'a, I: Id, N: Name, V: Value> {
     marks: &'a [OpenMark<I, N, V>],
@@ -90,24 +64,24 @@ impl<'a, I: Id, N: Name, V: Value> MarkSet<'a, I, N, V> {
 
     /// The value of a name: that of its greatest open id.
     pub fn value_of(&self, name: N) -> Option<V>
-        ensures value { result ≡ given N.Name.below self.now.marks.now name }
-        ensures greatest { Ascending I.Id.below self.now.marks.now → ValueOf I.Id.below self.now.marks.now name result }
+        ensures value { result ≡ given N.below self.now.marks.now name }
+        ensures greatest { Ascending I.below self.now.marks.now → ValueOf I.below self.now.marks.now name result }
     {
         last_value(self.marks, name)
     }
 
     /// The first entry past a name, or the first of all, in name order.
     pub fn entry_past(&self, last: Option<N>) -> Option<Entry<N, V>>
-        ensures value { result ≡ first_past N.Name.below last (entries N.Name.below self.now.marks.now) }
-        ensures entry { Ascending I.Id.below self.now.marks.now → EntryPast I.Id.below N.Name.below self.now.marks.now last result }
+        ensures value { result ≡ first_past N.below last (entries N.below self.now.marks.now) }
+        ensures entry { Ascending I.below self.now.marks.now → EntryPast I.below N.below self.now.marks.now last result }
     {
         next_entry(self.marks, last)
     }
 
     /// Entry `k` in name order, or none.
     pub fn entry(&self, k: usize) -> Option<Entry<N, V>>
-        ensures value { result ≡ slice_get (entries N.Name.below self.now.marks.now) k }
-        ensures entry { Ascending I.Id.below self.now.marks.now → EntryAt I.Id.below N.Name.below self.now.marks.now k result }
+        ensures value { result ≡ slice_get (entries N.below self.now.marks.now) k }
+        ensures entry { Ascending I.below self.now.marks.now → EntryAt I.below N.below self.now.marks.now k result }
     {
         let mut found = next_entry(self.marks, None)?;
         for _ in 0..k {

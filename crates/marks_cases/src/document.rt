@@ -1,6 +1,6 @@
 //! The scenes and the worked examples of the document kind.
 use crate::scenes::{Cast, greatest_wins, has, names_ascend, one_place, open_stays};
-use kinds::document::{OpId, ScalarValue, ShortStr};
+use kinds::document::{FloatBits, OpId, ScalarValue, ShortStr};
 use kinds::refusal::Refusal;
 use marks::machine::MarkStateMachine;
 use marks::mark::OpenMark;
@@ -86,11 +86,15 @@ fn equal_values_change_nothing(rt: HostRuntime) -> Result<(), Fail> {
     let mut side = MarkStateMachine::new(&mut memory);
     let weight = ShortStr::new(b"weight")?;
     assert_eq!(rt;
-        side.mark_begin(op(1, 0), weight, ScalarValue::F64(0)),
+        side.mark_begin(op(1, 0), weight, ScalarValue::F64(FloatBits { bits: 0 })),
         Ok(true)
     );
     assert_eq!(rt;
-        side.mark_begin(op(2, 0), weight, ScalarValue::F64(1 << 63)),
+        side.mark_begin(
+            op(2, 0),
+            weight,
+            ScalarValue::F64(FloatBits { bits: 1 << 63 })
+        ),
         Ok(false)
     );
     assert_eq!(rt; side.mark_end(op(3, 0)), Ok(false));

@@ -3,7 +3,6 @@ use kinds::interfaces::{Id, Name, Value};
 use kinds::refusal::Refusal;
 use marks::machine::MarkStateMachine;
 use marks::mark::OpenMark;
-use std::cmp::Ordering;
 use std::process::Abort;
 
 /// Three ids that follow one another, two names in their order, and two values that differ.
@@ -24,10 +23,7 @@ pub(crate) fn has<I: Id, N: Name, V: Value>(
     name: N,
     value: V,
 ) -> bool {
-    match side.value_of(name) {
-        Some(found) => found.same(&value),
-        None => false,
-    }
+    side.value_of(name) == Some(value)
 }
 
 /// Whether entry `k` has the name and the value.
@@ -37,11 +33,8 @@ fn lists<I: Id, N: Name, V: Value>(
     name: N,
     value: V,
 ) -> bool {
-    match side.entry(k) {
-        Some(entry) => matches!(entry.name.order(&name), Ordering::Equal)
-            && entry.value.same(&value),
-        None => false,
-    }
+    side.entry(k)
+        .is_some_and(|entry| entry.name == name && entry.value == value)
 }
 
 /// Whether the first entry past `last` has the name.
@@ -50,10 +43,9 @@ fn leads_to<I: Id, N: Name, V: Value>(
     last: Option<N>,
     name: N,
 ) -> bool {
-    match side.current().entry_past(last) {
-        Some(entry) => matches!(entry.name.order(&name), Ordering::Equal),
-        None => false,
-    }
+    side.current()
+        .entry_past(last)
+        .is_some_and(|entry| entry.name == name)
 }
 
 /// The greater of two open ids gives the value, and the older one again once the greater has ended.

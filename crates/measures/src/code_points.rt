@@ -4,7 +4,7 @@ ghost use Rattle.measures.specs.Laws.{code_points_laws};
 
 use crate::counts::points_at;
 use crate::measure::Measure;
-use crate::width::Width;
+use crate::width::{Width, width_of};
 
 /// Counts the code points of a text.
 #[derive(Clone, Copy)]
@@ -20,6 +20,6 @@ impl Measure for CodePoints {
         for b in text {
             points += points_at(*b);
         }
-        Width::of(points)
+        width_of(points)
     }
 }

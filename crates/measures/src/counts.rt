@@ -2,6 +2,8 @@
 ghost use Rattle.std.specs.Prelude.{◌≡◌, ◌≤◌};
 ghost use Rattle.measures.specs.Counts.{points, fours, CountsCharacters, CountsUnits};
 
+// Two functions, not one with a range: the first counts what is outside its range, the second what is inside.
+
 /// How many code points begin at the byte `b`.
 pub(crate) fn points_at(b: u8) -> u64
     ensures value { result ≡ points b }

@@ -57,6 +57,7 @@ pub struct Judge {
     expects: Expects,
 }
 
+// `Read` relates a judge to what it was told, which is no field of it: a judge holds only what may come next.
 impl Judge {
     /// A judge that has read nothing yet.
     pub fn new() -> Judge
@@ -67,6 +68,7 @@ impl Judge {
         }
     }
 
+    // Yes or no, and no error: of a byte that cannot stand there nothing more is to say.
     /// Reads the byte `b`; where no well-formed text goes on so, answers false and leaves the judge as it was.
     pub fn take(&mut self, b: u8) -> bool
         ensures taken { (bytes : List ℕ) → Read self.old bytes → Taken result self.new (bytes ++ b ∷ []) }
@@ -85,10 +87,7 @@ impl Judge {
     pub fn done(&self) -> bool
         ensures { (bytes : List ℕ) → Read self.now bytes → Decides result (Utf8Octets bytes) }
     {
-        match self.expects {
-            Expects::Char => true,
-            _ => false,
-        }
+        matches!(self.expects, Expects::Char)
     }
 }
 

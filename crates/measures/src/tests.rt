@@ -5,7 +5,7 @@ use crate::measure::Measure;
 use crate::strings::{bytes_of, text_from};
 use crate::utf8::Utf8;
 use crate::utf16::Utf16;
-use crate::width::Width;
+use crate::width::{joined_width, width_of};
 use std::process::Abort;
 
 /// A well-formed text and its width by each measure.
@@ -31,9 +31,9 @@ fn widths(text: &[u8], points: u32, bytes: u32, units: u32) -> Row<'_> {
 fn hold(rt: &impl Abort, rows: &[Row<'_>]) {
     for row in rows {
         assert!(rt; well_formed(row.text));
-        assert_eq!(rt; CodePoints.width(row.text), Width::Fits(row.points));
-        assert_eq!(rt; Utf8.width(row.text), Width::Fits(row.bytes));
-        assert_eq!(rt; Utf16.width(row.text), Width::Fits(row.units));
+        assert_eq!(rt; CodePoints.width(row.text), Some(row.points));
+        assert_eq!(rt; Utf8.width(row.text), Some(row.bytes));
+        assert_eq!(rt; Utf16.width(row.text), Some(row.units));
     }
 }
 
@@ -145,16 +145,16 @@ fn cut(rt: HostRuntime) {
 /// A width is told up to 4,294,967,295, alone and as a sum.
 #[test]
 fn limits(rt: HostRuntime) {
-    let most = Width::Fits(4_294_967_295);
-    assert_eq!(rt; Width::of(4_294_967_295), most);
-    assert_eq!(rt; Width::of(4_294_967_296), Width::Larger);
-    assert_eq!(rt; Width::of(u64::MAX), Width::Larger);
-    assert_eq!(rt; Width::Fits(4_294_967_294).plus(Width::Fits(1)), most);
-    assert_eq!(rt; most.plus(Width::Fits(0)), most);
-    assert_eq!(rt; most.plus(Width::Fits(1)), Width::Larger);
-    assert_eq!(rt; most.plus(most), Width::Larger);
-    assert_eq!(rt; Width::Larger.plus(Width::Fits(0)), Width::Larger);
-    assert_eq!(rt; Width::Fits(0).plus(Width::Larger), Width::Larger);
+    let most = Some(4_294_967_295);
+    assert_eq!(rt; width_of(4_294_967_295), most);
+    assert_eq!(rt; width_of(4_294_967_296), None);
+    assert_eq!(rt; width_of(u64::MAX), None);
+    assert_eq!(rt; joined_width(Some(4_294_967_294), Some(1)), most);
+    assert_eq!(rt; joined_width(most, Some(0)), most);
+    assert_eq!(rt; joined_width(most, Some(1)), None);
+    assert_eq!(rt; joined_width(most, most), None);
+    assert_eq!(rt; joined_width(None, Some(0)), None);
+    assert_eq!(rt; joined_width(Some(0), None), None);
 }
 
 /// U+10FFFF byte by byte: a byte that cannot stand there is refused, and the right one is still taken after it.

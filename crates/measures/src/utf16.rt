@@ -4,7 +4,7 @@ ghost use Rattle.measures.specs.Laws.{utf16_laws};
 
 use crate::counts::{fours_at, points_at};
 use crate::measure::Measure;
-use crate::width::Width;
+use crate::width::{Width, joined_width, width_of};
 
 /// Counts the code units that a text has in UTF-16: one for each code point, and one more for each of four bytes.
 #[derive(Clone, Copy)]
@@ -22,6 +22,6 @@ impl Measure for Utf16 {
             points += points_at(*b);
             pairs += fours_at(*b);
         }
-        Width::of(points).plus(Width::of(pairs))
+        joined_width(width_of(points), width_of(pairs))
     }
 }

@@ -3,7 +3,7 @@ ghost use Rattle.std.specs.Prelude.{length};
 ghost use Rattle.measures.specs.Laws.{bytes_laws};
 
 use crate::measure::Measure;
-use crate::width::Width;
+use crate::width::{Width, width_of};
 
 /// Counts the bytes of a text.
 #[derive(Clone, Copy)]
@@ -15,6 +15,6 @@ impl Measure for Utf8 {
     ghost laws = { λ _. bytes_laws };
 
     fn width(&self, text: &[u8]) -> Width {
-        Width::of(text.len() as u64)
+        width_of(text.len() as u64)
     }
 }

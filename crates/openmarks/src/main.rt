@@ -37,10 +37,9 @@ fn places(rt: &HostRuntime) -> anyhow::Result<usize> {
     let Some(word) = args.next() else {
         return Ok(PLACES);
     };
-    match word.as_str().parse::<usize>() {
-        Ok(number) => Ok(number),
-        Err(_) => Err(anyhow!("the argument is not a number of places")),
-    }
+    word.as_str()
+        .parse()
+        .map_err(|_| anyhow!("the argument is not a number of places"))
 }
 
 fn run(rt: &HostRuntime) -> anyhow::Result<()> {
@@ -61,7 +60,7 @@ fn run(rt: &HostRuntime) -> anyhow::Result<()> {
     let mut input = Vec::new(heap);
     let _count = rt.stdin().read_to_end(&mut input)?;
     let mut rest = input.as_slice();
-    let mut tally = Tally::new();
+    let mut tally = Tally::default();
     while !rest.is_empty() {
         let (line, after) = first_line(rest);
         let outcome = taken(&mut side, line);

@@ -1,8 +1,9 @@
 //! Mark operations as they are written, a line each.
-use crate::words::{Words, decimal, looks_like_integer};
+use crate::words::{decimal, looks_like_integer, parts_words};
 use kinds::document::{OpId, ScalarValue, ShortStr};
 use kinds::refusal::Refusal;
 use measures::strings::text_from;
+use thiserror::Error;
 
 /// An operation on the open marks.
 #[derive(Clone, Copy)]
@@ -18,72 +19,52 @@ pub(crate) enum Operation {
 }
 
 /// Why a line is no operation.
-#[derive(Clone, Copy, Debug)]
+#[derive(Clone, Copy, Debug, Error)]
 pub(crate) enum Mistake {
+    #[error("The line is empty.")]
     Empty,
+    #[error("An operation begins with begin or end.")]
     UnknownWord,
+    #[error("The id is missing.")]
     NoId,
+    #[error("An id is counter@actor, two numbers of 32 bits.")]
     BadId,
+    #[error("The name is missing.")]
     NoName,
+    #[error("The value is missing.")]
     NoValue,
+    #[error("The integer does not fit 64 bits.")]
     LargeInteger,
+    #[error("More words follow than the operation has.")]
     MoreWords,
 }
 
-impl Mistake {
-    /// What is wrong, in words.
-    pub(crate) fn words(self) -> &'static str {
-        match self {
-            Mistake::Empty => "The line is empty.",
-            Mistake::UnknownWord => "An operation begins with begin or end.",
-            Mistake::NoId => "The id is missing.",
-            Mistake::BadId => "An id is counter@actor, two numbers of 32 bits.",
-            Mistake::NoName => "The name is missing.",
-            Mistake::NoValue => "The value is missing.",
-            Mistake::LargeInteger => "The integer does not fit 64 bits.",
-            Mistake::MoreWords => "More words follow than the operation has.",
-        }
-    }
-}
-
 /// Why a line changes nothing: it is no operation, or the library refuses it.
-#[derive(Clone, Copy, Debug)]
+#[derive(Clone, Copy, Debug, Error)]
 pub(crate) enum Problem {
-    Mistaken(Mistake),
-    Refused(Refusal),
-}
-
-impl From<Mistake> for Problem {
-    fn from(mistake: Mistake) -> Problem {
-        Problem::Mistaken(mistake)
-    }
-}
-
-impl From<Refusal> for Problem {
-    fn from(refusal: Refusal) -> Problem {
-        Problem::Refused(refusal)
-    }
+    #[error("no operation: {0}")]
+    Mistaken(#[from] Mistake),
+    #[error("refused with {}: {}", .0.number(), .0.words())]
+    Refused(#[from] Refusal),
 }
 
 /// An id as `counter@actor`.
 fn read_id(word: &[u8]) -> Result<OpId, Mistake> {
-    for (i, b) in word.iter().enumerate() {
-        if *b == b'@' {
-            let counter = decimal(&word[0..i]).ok_or(Mistake::BadId)?;
-            let actor = decimal(&word[i + 1..]).ok_or(Mistake::BadId)?;
-            return Ok(OpId { counter, actor });
-        }
-    }
-    Err(Mistake::BadId)
+    let at = word.iter().position(|b| *b == b'@').ok_or(Mistake::BadId)?;
+    let counter = decimal(&word[..at]).ok_or(Mistake::BadId)?;
+    let actor = decimal(&word[at + 1..]).ok_or(Mistake::BadId)?;
+    Ok(OpId { counter, actor })
+}
+
+/// The integer that a word spells.
+fn read_integer(word: &[u8]) -> Option<i64> {
+    text_from(word)?.parse().ok()
 }
 
 /// An integer, true, false, null, or else a word of text.
 fn read_value(word: &[u8]) -> Result<ScalarValue, Problem> {
     if looks_like_integer(word) {
-        let text = text_from(word).ok_or(Mistake::LargeInteger)?;
-        let Ok(number) = text.parse::<i64>() else {
-            return Err(Problem::Mistaken(Mistake::LargeInteger));
-        };
+        let number = read_integer(word).ok_or(Mistake::LargeInteger)?;
         return Ok(ScalarValue::Int(number));
     }
     match word {
@@ -96,13 +77,14 @@ fn read_value(word: &[u8]) -> Result<ScalarValue, Problem> {
 
 /// The operation that a line spells; the library judges its name and text.
 pub(crate) fn read_operation(line: &[u8]) -> Result<Operation, Problem> {
-    let mut words = Words::new(line);
-    let first = words.next_word().ok_or(Mistake::Empty)?;
-    let operation = match first {
+    let mut words = line
+        .split(|b| parts_words(*b))
+        .filter(|word| !word.is_empty());
+    let operation = match words.next().ok_or(Mistake::Empty)? {
         b"begin" => {
-            let id = read_id(words.next_word().ok_or(Mistake::NoId)?)?;
-            let name = words.next_word().ok_or(Mistake::NoName)?;
-            let value = words.next_word().ok_or(Mistake::NoValue)?;
+            let id = read_id(words.next().ok_or(Mistake::NoId)?)?;
+            let name = words.next().ok_or(Mistake::NoName)?;
+            let value = words.next().ok_or(Mistake::NoValue)?;
             Operation::Begin {
                 id,
                 name: ShortStr::new(name)?,
@@ -110,11 +92,11 @@ pub(crate) fn read_operation(line: &[u8]) -> Result<Operation, Problem> {
             }
         }
         b"end" => Operation::End {
-            id: read_id(words.next_word().ok_or(Mistake::NoId)?)?,
+            id: read_id(words.next().ok_or(Mistake::NoId)?)?,
         },
         _ => return Err(Problem::Mistaken(Mistake::UnknownWord)),
     };
-    match words.next_word() {
+    match words.next() {
         Some(_) => Err(Problem::Mistaken(Mistake::MoreWords)),
         None => Ok(operation),
     }

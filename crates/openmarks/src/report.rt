@@ -2,10 +2,11 @@
 use crate::Side;
 use crate::operation::Problem;
 use kinds::document::ScalarValue;
+use std::iter::successors;
 use std::{fmt, io};
 
 /// How many lines there were, by what became of them.
-#[derive(Clone, Copy)]
+#[derive(Clone, Copy, Default)]
 pub(crate) struct Tally {
     lines: u64,
     taken: u64,
@@ -14,13 +15,15 @@ pub(crate) struct Tally {
 }
 
 impl Tally {
-    pub(crate) fn new() -> Tally {
-        Tally {
-            lines: 0,
-            taken: 0,
-            refused: 0,
-            mistaken: 0,
-        }
+    /// Counts a line.
+    fn count(&mut self, outcome: &Result<bool, Problem>) {
+        let column = match outcome {
+            Ok(_) => &mut self.taken,
+            Err(Problem::Refused(_)) => &mut self.refused,
+            Err(Problem::Mistaken(_)) => &mut self.mistaken,
+        };
+        *column = column.saturating_add(1);
+        self.lines = self.lines.saturating_add(1);
     }
 }
 
@@ -61,15 +64,11 @@ impl fmt::Display for Shown {
 /// Prints the set in name order.
 fn print_set(rt: &HostRuntime, side: &Side<'_>) -> io::Result<()> {
     let set = side.current();
-    let mut last = None;
-    for _ in 0..side.open_ids() {
-        let Some(entry) = set.entry_past(last) else {
-            return Ok(());
-        };
+    let entries = successors(set.entry_past(None), |last| set.entry_past(Some(last.name)));
+    for entry in entries.take(side.open_ids()) {
         let name = entry.name.as_str();
         let value = Shown(entry.value);
         print!(rt; " {name}={value}")?;
-        last = Some(entry.name);
     }
     Ok(())
 }
@@ -81,27 +80,16 @@ pub(crate) fn answer(
     side: &Side<'_>,
     outcome: Result<bool, Problem>,
 ) -> io::Result<()> {
-    tally.lines = tally.lines.saturating_add(1);
+    tally.count(&outcome);
     let line = tally.lines;
     match outcome {
         Ok(changed) => {
-            tally.taken = tally.taken.saturating_add(1);
             let verb = if changed { "changed" } else { "same" };
             let open = side.open_ids();
             print!(rt; "{line}: {verb}, {open} open:")?;
             print_set(rt, side)?;
             println!(rt; "")
         }
-        Err(Problem::Refused(refusal)) => {
-            tally.refused = tally.refused.saturating_add(1);
-            let number = refusal.number();
-            let words = refusal.words();
-            println!(rt; "{line}: refused with {number}: {words}")
-        }
-        Err(Problem::Mistaken(mistake)) => {
-            tally.mistaken = tally.mistaken.saturating_add(1);
-            let words = mistake.words();
-            println!(rt; "{line}: no operation: {words}")
-        }
+        Err(problem) => println!(rt; "{line}: {problem}"),
     }
 }

@@ -2,7 +2,6 @@
 use crate::operation::{Mistake, Operation, Problem, read_operation};
 use crate::words::first_line;
 use kinds::document::{OpId, ScalarValue, ShortStr};
-use kinds::interfaces::Value;
 use marks::mark::OpenMark;
 use std::process::Abort;
 use std::test::Fail;
@@ -26,7 +25,7 @@ fn begins(
     let mark = begun(line)?;
     assert_eq!(rt; mark.id, id);
     assert!(rt; mark.name.bytes() == name);
-    assert!(rt; mark.value.same(&value));
+    assert!(rt; mark.value == value);
     Ok(())
 }
 
@@ -47,10 +46,10 @@ fn refused(line: &[u8]) -> Option<u8> {
 }
 
 /// What is wrong with a line that is no operation.
-fn wrong(line: &[u8]) -> &'static str {
+fn wrong(rt: &HostRuntime, line: &[u8]) -> Result<String, Fail> {
     match read_operation(line) {
-        Err(Problem::Mistaken(mistake)) => mistake.words(),
-        _ => "",
+        Err(Problem::Mistaken(mistake)) => Ok(mistake.to_string(rt.alloc())?),
+        _ => Err(Fail::new("an operation")),
     }
 }
 
@@ -95,35 +94,39 @@ fn what_the_library_refuses(rt: HostRuntime) {
 }
 
 #[test]
-fn no_operations(rt: HostRuntime) {
-    assert_eq!(rt; wrong(b""), "The line is empty.");
+fn no_operations(rt: HostRuntime) -> Result<(), Fail> {
+    assert_eq!(rt; wrong(&rt, b"")?.as_str(), "The line is empty.");
     assert_eq!(rt;
-        wrong(b"open 1@0"),
+        wrong(&rt, b"open 1@0")?.as_str(),
         "An operation begins with begin or end."
     );
-    assert_eq!(rt; wrong(b"end"), "The id is missing.");
+    assert_eq!(rt; wrong(&rt, b"end")?.as_str(), "The id is missing.");
     assert_eq!(rt;
-        wrong(b"end 1"),
+        wrong(&rt, b"end 1")?.as_str(),
         "An id is counter@actor, two numbers of 32 bits."
     );
     assert_eq!(rt;
-        wrong(b"end 4294967296@0"),
+        wrong(&rt, b"end 4294967296@0")?.as_str(),
         "An id is counter@actor, two numbers of 32 bits."
     );
     assert_eq!(rt;
-        wrong(b"end 1@0@0"),
+        wrong(&rt, b"end 1@0@0")?.as_str(),
         "An id is counter@actor, two numbers of 32 bits."
     );
-    assert_eq!(rt; wrong(b"begin 1@0"), "The name is missing.");
-    assert_eq!(rt; wrong(b"begin 1@0 void"), "The value is missing.");
+    assert_eq!(rt; wrong(&rt, b"begin 1@0")?.as_str(), "The name is missing.");
     assert_eq!(rt;
-        wrong(b"begin 1@0 void -9223372036854775809"),
+        wrong(&rt, b"begin 1@0 void")?.as_str(),
+        "The value is missing."
+    );
+    assert_eq!(rt;
+        wrong(&rt, b"begin 1@0 void -9223372036854775809")?.as_str(),
         "The integer does not fit 64 bits."
     );
     assert_eq!(rt;
-        wrong(b"end 1@0 2@0"),
+        wrong(&rt, b"end 1@0 2@0")?.as_str(),
         "More words follow than the operation has."
     );
+    Ok(())
 }
 
 #[test]

@@ -2,6 +2,5 @@
 #![tactic(auto)]
 
 pub mod places;
-mod shifts;
 #[cfg(test)]
 mod tests;

@@ -1,15 +1,13 @@
 //! A memory that is lent, of which the first places are in use.
-ghost use Rattle.std.specs.Prelude.{◌≡◌, ◌<◌, ◌≤◌, [], length, take};
-ghost use Rattle.places.specs.Held.{held, size};
-ghost use Rattle.places.specs.Changes.{Pushed, Inserts, Removes};
-
-use crate::shifts::{insert_at, put_last, remove_at};
+ghost use Rattle.std.specs.Prelude.{◌≤◌, length};
 
 /// A lent memory; the first `used` places hold items, and past them anything may stand.
 #[derive(Drop)]
 pub struct Places<'a, T> {
+    // A slice and a count, not a `Vec`: the memory is the caller's, and the library takes none of its own.
     slots: &'a mut [T],
     used: usize,
+    ghost within: { used ≤ length slots.now },
 }
 
 /// Why an item was not put in.
@@ -22,6 +20,10 @@ pub enum NoPlace {
 }
 
 impl<'a, T: Copy> Places<'a, T> {
+    ghost use Rattle.std.specs.Prelude.{◌≡◌, [], take};
+    ghost use Rattle.places.specs.Held.{held, size};
+    ghost use Rattle.places.specs.Changes.{Pushed, Inserts, Removes};
+
     /// The whole of `slots`, with no place in use.
     pub fn new(slots: &'a mut [T]) -> Self
         ensures empty { held result ≡ [] }
@@ -29,15 +31,6 @@ impl<'a, T: Copy> Places<'a, T> {
         ensures lent { (result.slots.now ≡ slots.old) × (result.slots.ghost_name ≡ slots.entry.ghost_name) }
     {
         Places { slots, used: 0 }
-    }
-
-    /// How many places are in use; a count past the end of the memory means all of them.
-    fn in_use(&self) -> usize
-        ensures within { result ≤ size self.now }
-        ensures count { result ≡ length (held self.now) }
-        ensures front { take result self.now.slots.now ≡ held self.now }
-    {
-        self.used.min(self.capacity())
     }
 
     /// How many places are in use.
@@ -58,10 +51,10 @@ impl<'a, T: Copy> Places<'a, T> {
     pub fn all(&self) -> &[T]
         ensures { result.now ≡ held self.now }
     {
-        let count = self.in_use();
-        let slots: &[T] = &*self.slots;
-        &slots[0..count]
+        &self.slots[..self.used]
     }
+
+    // `size` and `lent` of the changes compare a memory with itself after the call, which no type can hold.
 
     /// Puts an item after the others.
     pub fn push(&mut self, item: T) -> Result<(), NoPlace>
@@ -69,12 +62,11 @@ impl<'a, T: Copy> Places<'a, T> {
         ensures size { size self.new ≡ size self.old }
         ensures lent { self.new.slots.ghost_name ≡ self.old.slots.ghost_name }
     {
-        let count = self.in_use();
-        if count == self.capacity() {
+        if self.used == self.capacity() {
             return Err(NoPlace::Full);
         }
-        put_last(&mut *self.slots, count, item);
-        self.used = count + 1;
+        self.slots[self.used] = item;
+        self.used += 1;
         Ok(())
     }
 
@@ -84,15 +76,15 @@ impl<'a, T: Copy> Places<'a, T> {
         ensures size { size self.new ≡ size self.old }
         ensures lent { self.new.slots.ghost_name ≡ self.old.slots.ghost_name }
     {
-        let count = self.in_use();
-        if at > count {
+        if at > self.used {
             return Err(NoPlace::Outside);
         }
-        if count >= self.capacity() {
+        if self.used >= self.capacity() {
             return Err(NoPlace::Full);
         }
-        insert_at(&mut *self.slots, count, at, item);
-        self.used = count + 1;
+        self.slots.copy_within(at..self.used, at + 1);
+        self.slots[at] = item;
+        self.used += 1;
         Ok(())
     }
 
@@ -102,13 +94,9 @@ impl<'a, T: Copy> Places<'a, T> {
         ensures size { size self.new ≡ size self.old }
         ensures lent { self.new.slots.ghost_name ≡ self.old.slots.ghost_name }
     {
-        let count = self.in_use();
-        if at >= count {
-            return None;
-        }
-        let item = self.all()[at];
-        remove_at(&mut *self.slots, count, at);
-        self.used = count - 1;
+        let item = *self.all().get(at)?;
+        self.slots.copy_within(at + 1..self.used, at);
+        self.used -= 1;
         Some(item)
     }
 }

@@ -1,7 +1,7 @@
 -- A table from a row on, and the bytes of a part of its memory. Assumes nothing.
-use Rattle.std.proofs.Common.{◌≡◌, ℕ, zero, suc, ◌+◌, ◌-◌, ◌<◌, ◌≤◌, min, Bool, true, false, List, [], ◌∷◌, length, get_or, take, drop, Some, None, Ok, Option, sym, refl, ap, ◌∙◌, add-one, arith, length-drop, drop_of_length-le, length-take, get_or-drop, drop-cons, get_or-take}
+use Rattle.std.proofs.Common.{◌≡◌, ℕ, zero, suc, ◌+◌, ◌-◌, ◌<◌, ◌≤◌, min, Bool, true, false, List, [], ◌∷◌, length, get_or, take, drop, Some, None, Ok, Option, sym, refl, ap, ◌∙◌, add-one, arith, length-drop, length-take, get_or-drop, get_or-take}
 use Rattle.sources.specs.Meaning.{Meaning, Entry, Ending, stepped, rest, item, byte_at}
-use Rattle.sources.specs.Table.{held, text_of, entry, past_memory, before, ends_with, good_records, good_ending, tabled, good_or, headed, shows_one}
+use Rattle.sources.specs.Table.{held, text_of, entry, past_memory, before, ends_with, good_records, good_ending, tabled, good_or, headed}
 use Rattle.sources.specs.declared.fault.Fault.{Fault}
 use Rattle.sources.specs.declared.table.TextPlace.{TextPlace}
 use Rattle.sources.specs.declared.table.TableRecord.{TableRecord}
@@ -18,35 +18,19 @@ abbrev meant : {I N V : Type 0} → List (Entry I N V) → Ending → Meaning I 
 meant rs e = record { height = 0; records = rs; ending = e }
 
 -- a good record is dropped
-steps_by : {I N V : Type 0} (b : Bool) (r : TableRecord I N V) (x : Entry I N V) (xs : List (Entry I N V)) (e : Ending) (f : Fault) → shows_one (good_or b r f) ≡ true → meant xs e ≡ stepped (meant (before b x xs) (ends_with b e f))
+steps_by : {I N V : Type 0} (b : Bool) (r : TableRecord I N V) (x : Entry I N V) (xs : List (Entry I N V)) (e : Ending) (f : Fault) {first : TableRecord I N V} → Ok (Some first) ≡ good_or b r f → meant xs e ≡ stepped (meant (before b x xs) (ends_with b e f))
 steps_by true r x xs e f h = refl
-steps_by false r x xs e f h = let z : ◌≡◌ {A = ℕ} 0 1 = cc in absurd (omega arith)
+steps_by false r x xs e f h = absurd cc
 
 module _ {I N V : Type 0} (memory : List ℕ) (at : ℕ) where
-  steps_list : (rows : List (TableRecord I N V)) → shows_one (headed memory at rows) ≡ true → tabled memory (at + 1) (rest rows) ≡ stepped (tabled memory at rows)
-  steps_list [] h = let z : ◌≡◌ {A = ℕ} 0 1 = cc in absurd (omega arith)
+  steps_list : (rows : List (TableRecord I N V)) {first : TableRecord I N V} → Ok (Some first) ≡ headed memory at rows → tabled memory (at + 1) (rest rows) ≡ stepped (tabled memory at rows)
+  steps_list [] h = absurd cc
   steps_list (r ∷ rs) h =
       steps_by (held memory r.text) r (entry memory at r) (good_records memory (at + 1) rs) (good_ending memory (at + 1) rs) (past_memory at) h
 
-  some_list : (rows : List (TableRecord I N V)) → shows_one (headed memory at rows) ≡ true → 0 < length rows
-  some_list [] h = let z : ◌≡◌ {A = ℕ} 0 1 = cc in absurd (omega arith)
-  some_list (r ∷ rs) h = omega arith
-
-  -- past the last row
-  pub head_past : (rows : List (TableRecord I N V)) → length rows ≤ at → headed memory at (drop at rows) ≡ Ok None
-  head_past rows l = rw (drop_of_length-le rows l)
-
-  -- at a row
-  pub head_in : (rows : List (TableRecord I N V)) (d : TableRecord I N V) (b : Bool) → at < length rows → b ≡ held memory (get_or rows at d).text → good_or b (get_or rows at d) (past_memory at) ≡ headed memory at (drop at rows)
-  head_in rows d b l e = rw (drop-cons rows at d) (ap (λ t. good_or t (get_or rows at d) (past_memory at)) e)
-
-  -- where a record is shown, there is a row
-  pub some_row : (rows : List (TableRecord I N V)) → true ≡ shows_one (headed memory at (drop at rows)) → at < length rows
-  some_row rows h = omega (arith, simp length-drop at (some_list (drop at rows) (sym h)))
-
-  -- one row on
-  pub step_in : (rows : List (TableRecord I N V)) → true ≡ shows_one (headed memory at (drop at rows)) → tabled memory (at + 1) (drop (at + 1) rows) ≡ stepped (tabled memory at (drop at rows))
-  step_in rows h = rw (ap (λ k. drop k rows) (add-one at) ∙ drop_rest rows at) (steps_list (drop at rows) (sym h))
+  -- where a record is shown, there is one row on
+  pub step_in : (rows : List (TableRecord I N V)) {r : TableRecord I N V} → Ok (Some r) ≡ headed memory at (drop at rows) → tabled memory (at + 1) (drop (at + 1) rows) ≡ stepped (tabled memory at (drop at rows))
+  step_in rows h = rw (ap (λ k. drop k rows) (add-one at) ∙ drop_rest rows at) (steps_list (drop at rows) h)
 
 -- an item of a list
 item_in : (bs : List ℕ) (k : ℕ) → k < length bs → item bs k ≡ Some (get_or bs k 0)

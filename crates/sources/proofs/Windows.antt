@@ -1,31 +1,19 @@
 -- What a window does as the source below goes on. Assumes nothing.
-use Rattle.std.proofs.Common.{◌≡◌, ℕ, suc, ◌+◌, ◌-◌, ◌<◌, true, false, ltb, List, [], ◌∷◌, length, sym, refl, ap, ◌∙◌, arith, lt-ltb}
+use Rattle.std.proofs.Common.{◌≡◌, ℕ, suc, ◌+◌, ◌-◌, ◌<◌, true, ltb, List, [], ◌∷◌, length, sym, ap, ◌∙◌, arith, lt-ltb}
 use Rattle.std.proofs.Math.Seq.{take-nil, drop-nil}
 use Rattle.std.proofs.lemmas.Bool.Decides.{nat_tests}
 use Rattle.sources.specs.Meaning.{Meaning, Entry, Ending, first, first_text, stepped, nonempty}
 use Rattle.sources.specs.Window.{opened}
-
--- a list without a first is empty
-pub empty_list : {A : Type 0} (rs : List A) → false ≡ nonempty rs → rs ≡ []
-empty_list [] n = refl
-empty_list (x ∷ xs) n = let z : ◌≡◌ {A = ℕ} 0 1 = cc in absurd (omega arith)
 
 -- what is meant, part by part
 abbrev meant : {I N V : Type 0} → ℕ → List (Entry I N V) → Ending → Meaning I N V
 meant h rs e = record { height = h; records = rs; ending = e }
 
 -- a record less on either side of the test
-one_less : (l k t : ℕ) → ltb l (k + t) ≡ ltb (suc l) (suc k + t)
-one_less l k t = grind (arith, nat_tests)
-
 one_left : (l t : ℕ) → ltb l (0 + t) ≡ ltb (suc l) (0 + suc t)
 one_left l t = grind (arith, nat_tests)
 
 module _ {I N V : Type 0} (h : ℕ) (e : Ending) where
-  passes_list : (skip left : ℕ) (rs : List (Entry I N V)) → true ≡ nonempty rs → opened skip left (stepped (meant h rs e)) ≡ opened (suc skip) left (meant h rs e)
-  passes_list skip left [] n = let z : ◌≡◌ {A = ℕ} 0 1 = cc in absurd (omega arith)
-  passes_list skip left (x ∷ xs) n = rw (one_less (length xs) skip left)
-
   steps_list : (left : ℕ) (rs : List (Entry I N V)) → true ≡ nonempty rs → opened 0 left (stepped (meant h rs e)) ≡ stepped (opened 0 (suc left) (meant h rs e))
   steps_list left [] n = let z : ◌≡◌ {A = ℕ} 0 1 = cc in absurd (omega arith)
   steps_list left (x ∷ xs) n = rw (one_left (length xs) left)
@@ -57,12 +45,6 @@ module _ {I N V : Type 0} (skip left h : ℕ) (e : Ending) where
       rw (p, q)
 
 module _ {I N V : Type 0} (skip left : ℕ) (m : Meaning I N V) where
-  -- a record before the window is passed below
-  pub passes : 0 < skip → true ≡ nonempty m.records → opened (skip - 1) left (stepped m) ≡ opened skip left m
-  passes s n =
-      let q : suc (skip - 1) ≡ skip = omega arith in
-      passes_list m.height m.ending (skip - 1) left m.records n ∙ ap (λ k. opened k left m) q
-
   -- a record of the window is dropped below
   pub steps : (0 < skip → m.records ≡ []) → 0 < left → true ≡ nonempty m.records → opened skip (left - 1) (stepped m) ≡ stepped (opened skip left m)
   steps f t n =
@@ -76,18 +58,3 @@ module _ {I N V : Type 0} (skip left : ℕ) (m : Meaning I N V) where
 
   pub shows_text : (0 < skip → m.records ≡ []) → 0 < skip + left → first_text m.records ≡ first_text (opened skip left m).records
   shows_text f t = sym (text_list skip left m.height m.ending m.records f t)
-
-  -- the window is shut
-  pub shut_records : left ≡ 0 → (opened skip left m).records ≡ []
-  shut_records z = rw z
-
-  -- there is nothing below
-  pub none_records : m.records ≡ [] → (opened skip left m).records ≡ []
-  none_records n = rw n (rw drop-nil (take-nil left))
-
--- a step where there is no record
-pub stays : {I N V : Type 0} (m : Meaning I N V) → m.records ≡ [] → stepped m ≡ m
-stays {I} {N} {V} m n = stays_list m.height m.ending m.records n
-  where
-    stays_list : (h : ℕ) (e : Ending) (rs : List (Entry I N V)) → rs ≡ [] → stepped (meant h rs e) ≡ meant h rs e
-    stays_list h e rs n = rw n

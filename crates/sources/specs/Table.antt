@@ -78,9 +78,3 @@ headed memory row (r ∷ rs) = good_or (held memory r.text) r (past_memory row)
 -- The record of a table that is first now, or how the list ends there.
 abbrev pub table_head : {I N V : Type 0} → Table I N V → Result (Option (TableRecord I N V)) Fault
 table_head t = headed t.text.now t.at (drop t.at t.rows.now)
-
--- Whether it is a record.
-abbrev pub shows_one : {A : Type 0} → Result (Option A) Fault → Bool
-shows_one (Ok None) = false
-shows_one (Ok (Some r)) = true
-shows_one (Err f) = false

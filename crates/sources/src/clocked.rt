@@ -1,7 +1,7 @@
 //! The clock layer: the records of a source that a clock covers.
 ghost use Rattle.std.specs.Prelude.{◌≡◌, true};
 ghost use Rattle.sources.specs.Clock.{clock_numbers};
-ghost use Rattle.sources.specs.Meaning.{first, nonempty};
+ghost use Rattle.sources.specs.Meaning.{first};
 ghost use Rattle.sources.specs.Sifted.{clocked, clocked_means, clocked_settled};
 
 use crate::clock::Clock;
@@ -20,15 +20,15 @@ pub struct Clocked<S> {
 impl<S: Source> Clocked<S> {
     /// The records below that this clock covers.
     pub fn new(below: S, clock: Clock) -> Clocked<S>
-        ensures { clocked_means S.I.Id.actor S.I.Id.counter S.means result ≡ clocked S.I.Id.actor S.I.Id.counter (clock_numbers clock) (S.means below) }
+        ensures { ⟦<Clocked<S> as Source>⟧.means result ≡ clocked S.I.Id.actor S.I.Id.counter (clock_numbers clock) (S.means below) }
     {
         Clocked { below, clock }
     }
 
     /// Passes the records that the clock does not cover, and shows what is first then.
     fn settle(&mut self) -> Result<Option<Record<S::I, S::N, S::V>>, Fault>
-        ensures answer { result ≡ first (clocked_means S.I.Id.actor S.I.Id.counter S.means self.old).records (clocked_means S.I.Id.actor S.I.Id.counter S.means self.old).ending }
-        ensures same { clocked_means S.I.Id.actor S.I.Id.counter S.means self.new ≡ clocked_means S.I.Id.actor S.I.Id.counter S.means self.old }
+        ensures answer { result ≡ first (⟦<Clocked<S> as Source>⟧.means self.old).records (⟦<Clocked<S> as Source>⟧.means self.old).ending }
+        ensures same { ⟦<Clocked<S> as Source>⟧.means self.new ≡ ⟦<Clocked<S> as Source>⟧.means self.old }
         ensures settled { clocked_settled S.I.Id.actor S.I.Id.counter S.means self.new ≡ true }
     {
         while let Some(record) = self.below.look()? {
@@ -36,7 +36,7 @@ impl<S: Source> Clocked<S> {
                 Ok(true) => return Ok(Some(record)),
                 Ok(false) => self.below.step(),
                 Err(refusal) => {
-                    let height = self.below.height().saturating_add(1);
+                    let height = self.below.height_above();
                     return Err(Fault {
                         refusal,
                         row: record.row,
@@ -46,18 +46,6 @@ impl<S: Source> Clocked<S> {
             }
         }
         Ok(None)
-    }
-
-    /// Passes the records that the clock does not cover, and tells whether one is left that it does.
-    fn ready(&mut self) -> bool
-        ensures answer { result ≡ nonempty (clocked_means S.I.Id.actor S.I.Id.counter S.means self.old).records }
-        ensures same { clocked_means S.I.Id.actor S.I.Id.counter S.means self.new ≡ clocked_means S.I.Id.actor S.I.Id.counter S.means self.old }
-        ensures settled { clocked_settled S.I.Id.actor S.I.Id.counter S.means self.new ≡ true }
-    {
-        match self.settle() {
-            Ok(Some(_)) => true,
-            _ => false,
-        }
     }
 }
 
@@ -72,7 +60,7 @@ impl<S: Source> Source for Clocked<S> {
 
     /// One more than below.
     fn height(&mut self) -> u32 {
-        self.below.height().saturating_add(1)
+        self.below.height_above()
     }
 
     fn look(&mut self) -> Result<Option<Record<S::I, S::N, S::V>>, Fault> {
@@ -80,15 +68,12 @@ impl<S: Source> Source for Clocked<S> {
     }
 
     fn text(&mut self, place: u64) -> Option<u8> {
-        if self.ready() {
-            self.below.text(place)
-        } else {
-            None
-        }
+        self.settle().ok()??;
+        self.below.text(place)
     }
 
     fn step(&mut self) {
-        if self.ready() {
+        if let Ok(Some(_)) = self.settle() {
             self.below.step();
         }
     }

@@ -3,6 +3,7 @@ ghost use Rattle.std.specs.Prelude.{◌≡◌, ◌<◌, ◌≤◌, length, Match
 ghost use Rattle.sources.specs.Clock.{clock_numbers, covering};
 
 use crate::clock::Clock;
+use kinds::padded::padded;
 use kinds::refusal::Refusal;
 
 impl Clock {
@@ -10,27 +11,24 @@ impl Clock {
     pub fn new(numbers: &[u64]) -> Option<Clock>
         ensures { MatchOption result (64 < length numbers.now) (λ c. clock_numbers c ≡ numbers.now) }
     {
-        if numbers.len() > 64 {
-            return None;
-        }
-        let mut held = [0; 64];
-        for (actor, number) in numbers.iter().enumerate() {
-            held[actor] = *number;
-        }
         Some(Clock {
-            numbers: held,
+            numbers: padded(numbers, 0)?,
             len: numbers.len(),
         })
+    }
+
+    /// The numbers, one for each actor.
+    fn known(&self) -> &[u64]
+        ensures { result.now ≡ clock_numbers self.now }
+    {
+        &self.numbers[..self.len]
     }
 
     /// Whether the actor's number is at least the counter; refused where the clock has no number for the actor.
     pub fn covers(&self, actor: usize, counter: u64) -> Result<bool, Refusal>
         ensures { result ≡ covering (clock_numbers self.now) actor counter }
     {
-        if actor < self.len {
-            Ok(counter <= self.numbers[actor])
-        } else {
-            Err(Refusal::ActorUnknown)
-        }
+        let number = self.known().get(actor).ok_or(Refusal::ActorUnknown)?;
+        Ok(counter <= *number)
     }
 }

@@ -1,10 +1,12 @@
 //! What a source of records is.
 ghost use Rattle.std.specs.Prelude.{◌≡◌, ℕ};
-ghost use Rattle.sources.specs.Meaning.{Meaning, first, stepped, byte_at, first_text, nonempty};
+ghost use Rattle.sources.specs.Meaning.{Meaning, first, stepped, byte_at, first_text, nonempty, raised};
 
 use crate::fault::Fault;
 use crate::record::Record;
 use kinds::interfaces::{Id, Name, Value};
+
+// The clauses `same` compare a source with itself after the call, which no type can hold.
 
 /// A source of records: it means a height, the records to come, and how they end.
 pub trait Source {
@@ -20,6 +22,14 @@ pub trait Source {
     fn height(&mut self) -> u32
         ensures answer { result ≡ (means self.old).height }
         ensures same { means self.new ≡ means self.old };
+
+    /// The height of a layer that lies on this source: one more, at most 4,294,967,295.
+    fn height_above(&mut self) -> u32
+        ensures answer { result ≡ raised (means self.old).height }
+        ensures same { means self.new ≡ means self.old }
+    {
+        self.height().saturating_add(1)
+    }
 
     /// The first record, or how the empty list ends.
     fn look(&mut self) -> Result<Option<Record<Self::I, Self::N, Self::V>>, Fault>
@@ -40,9 +50,6 @@ pub trait Source {
         ensures answer { result ≡ nonempty (means self.old).records }
         ensures same { means self.new ≡ means self.old }
     {
-        match self.look() {
-            Ok(Some(_)) => true,
-            _ => false,
-        }
+        matches!(self.look(), Ok(Some(_)))
     }
 }

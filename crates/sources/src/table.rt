@@ -1,7 +1,7 @@
 //! The table: records in lent memory, a source with nothing below it.
 ghost use Rattle.std.specs.Prelude.{◌≡◌};
 ghost use Rattle.sources.specs.Meaning.{byte_at};
-ghost use Rattle.sources.specs.Table.{held, text_of, tabled, table_means, table_head, shows_one};
+ghost use Rattle.sources.specs.Table.{held, text_of, tabled, table_means, table_head};
 
 use crate::fault::Fault;
 use crate::record::{Action, Diff, Record};
@@ -10,6 +10,7 @@ use kinds::interfaces::{Id, Name, Value};
 use kinds::refusal::Refusal;
 
 /// Where a text lies in the table's memory.
+// A start and a length, not a slice: the memory is the table's, and a record only points into it.
 #[derive(Clone, Copy, Debug)]
 pub struct TextPlace {
     pub start: usize,
@@ -39,10 +40,9 @@ pub struct Table<'a, I, N, V> {
 fn holds(memory: &[u8], text: Option<TextPlace>) -> bool
     ensures { result ≡ held memory.now text }
 {
-    match text {
-        Some(place) => place.start <= memory.len() && place.len <= memory.len() - place.start,
-        None => true,
-    }
+    text.is_none_or(|place| {
+        place.start <= memory.len() && place.len <= memory.len() - place.start
+    })
 }
 
 /// The byte at a place of a text, or none past its end.
@@ -69,12 +69,11 @@ impl<'a, I: Id, N: Name, V: Value> Table<'a, I, N, V> {
     fn head(&self) -> Result<Option<TableRecord<I, N, V>>, Fault>
         ensures { result ≡ table_head self.now }
     {
-        if self.at >= self.rows.len() {
+        let Some(first) = self.rows.get(self.at) else {
             return Ok(None);
-        }
-        let first = self.rows[self.at];
+        };
         if holds(self.text, first.text) {
-            Ok(Some(first))
+            Ok(Some(*first))
         } else {
             Err(Fault {
                 refusal: Refusal::Malformed,
@@ -82,13 +81,6 @@ impl<'a, I: Id, N: Name, V: Value> Table<'a, I, N, V> {
                 height: 0,
             })
         }
-    }
-
-    /// Whether there is a record.
-    fn good(&self) -> bool
-        ensures { result ≡ shows_one (table_head self.now) }
-    {
-        matches!(self.head(), Ok(Some(_)))
     }
 }
 
@@ -107,30 +99,27 @@ impl<'a, I: Id, N: Name, V: Value> Source for Table<'a, I, N, V> {
     }
 
     fn look(&mut self) -> Result<Option<Record<I, N, V>>, Fault> {
-        match self.head() {
-            Ok(Some(first)) => Ok(Some(Record {
-                row: self.at as u64,
-                tag: first.tag,
-                action: first.action,
-                id: first.id,
-                name: first.name,
-                value: first.value,
-                has_text: first.text.is_some(),
-            })),
-            Ok(None) => Ok(None),
-            Err(fault) => Err(fault),
-        }
+        let Some(first) = self.head()? else {
+            return Ok(None);
+        };
+        Ok(Some(Record {
+            row: self.at as u64,
+            tag: first.tag,
+            action: first.action,
+            id: first.id,
+            name: first.name,
+            value: first.value,
+            has_text: first.text.is_some(),
+        }))
     }
 
     fn text(&mut self, place: u64) -> Option<u8> {
-        match self.head() {
-            Ok(Some(first)) => byte_of(self.text, first.text, place as usize),
-            _ => None,
-        }
+        let first = self.head().ok()??;
+        byte_of(self.text, first.text, place as usize)
     }
 
     fn step(&mut self) {
-        if self.good() {
+        if let Ok(Some(_first)) = self.head() {
             self.at += 1;
         }
     }

@@ -17,7 +17,7 @@ pub struct Window<S> {
 impl<S: Source> Window<S> {
     /// The records below from `from` up to, but without, `to`.
     pub fn new(below: S, from: u64, to: u64) -> Window<S>
-        ensures { window_means S.means result ≡ window from to (S.means below) }
+        ensures { ⟦<Window<S> as Source>⟧.means result ≡ window from to (S.means below) }
     {
         let skip = from.min(to);
         Window {
@@ -29,9 +29,10 @@ impl<S: Source> Window<S> {
 
     /// Passes the records before the window.
     fn settle(&mut self)
-        ensures same { window_means S.means self.new ≡ window_means S.means self.old }
+        ensures same { ⟦<Window<S> as Source>⟧.means self.new ≡ ⟦<Window<S> as Source>⟧.means self.old }
         ensures settled { Settled S.means self.new }
     {
+        // A `while`: what is not passed yet stays in the window's own count.
         while self.skip > 0 && self.below.more() {
             self.below.step();
             self.skip -= 1;
@@ -50,7 +51,7 @@ impl<S: Source> Source for Window<S> {
 
     /// One more than below.
     fn height(&mut self) -> u32 {
-        self.below.height().saturating_add(1)
+        self.below.height_above()
     }
 
     fn look(&mut self) -> Result<Option<Record<S::I, S::N, S::V>>, Fault> {

@@ -1,15 +1,15 @@
-use Rattle.std.proofs.Common.{List, sym, ap, ◌∙◌, arith}
-use Rattle.std.proofs.lemmas.List.{drop_all}
+use Rattle.std.proofs.Common.{◌≡◌, ap, ◌∙◌, rules}
+use Rattle.std.specs.Option.{option_map}
 use Rattle.marks.specs.Set.{given}
-use Rattle.marks.specs.declared.mark.OpenMark.{OpenMark}
-use Rattle.marks.proofs.Values.{given_missed, given_found}
+use Rattle.marks.proofs.Orders.{same_alike}
+use Rattle.marks.proofs.Values.{found_last}
 use Rattle.marks.proofs.set.last_value.Goals as goal
 
-pub loop-i-init : goal.loop-i-init
-loop-i-init g c = ap (λ (l : List (OpenMark g.row.I.Denot g.row.N.Denot g.row.V.Denot)). given g.N.Name.below l c.args.name) (drop_all _ c.args.marks.now (omega arith))
-
-pub returns-then-named : goal.returns-then-named
-returns-then-named g c = given_found g.N.Name.below c.args.name c.args.marks.now c.loop-i.i c.index-marks-i.result (omega arith) (omega arith) c.index-marks-i.is c.loop-i.invariant (sym c.named.ensures ∙ c.if-named.true)
-
-pub loop-i-preserved : goal.loop-i-preserved
-loop-i-preserved g c = given_missed g.N.Name.below c.args.name c.args.marks.now c.loop-i.i c.index-marks-i.result (omega arith) (omega arith) c.index-marks-i.is c.loop-i.invariant (sym c.named.ensures ∙ c.if-named.false)
+pub returns : goal.returns
+returns g c =
+    let value : c.map.result ≡ option_map (λ o. o.now.value) c.rfind.result = search rules in
+    let (xs, j, (t, gave, end), kept, found) = c.rfind.ensures.ran in
+    value ∙ found_last g.N.Ordered.below c.args.name _ (λ o b q k.
+    let told : (q ≡ _) × (b ≡ g.N.PartialEq.eq o.now.name c.args.name) = search rules in
+    (told.0, told.1 ∙ same_alike g.met.N.Ordered.orders g.met.N.Ord.matches_eq o.now.name c.args.name)) xs c.iter.result t _ c.rfind.result j gave end kept found
+    ∙ ap (λ l. given g.N.Ordered.below l c.args.name) c.iter.ensures.rest

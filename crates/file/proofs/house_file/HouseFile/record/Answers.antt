@@ -1,40 +1,16 @@
-use Rattle.std.proofs.Common.{◌+◌, ◌*◌, ◌<◌, ◌≤◌, Some, ap, ◌∙◌, arith, le-ltb, lt-ltb}
-use Rattle.house.specs.Records.{records_count}
-use Rattle.house.proofs.Bounds.{record_within}
+use Rattle.std.proofs.Common.{◌≡◌, ◌<◌, Some, ap, ◌∙◌, arith, lt-ltb}
+use Rattle.house.specs.Records.{records_count, record_place}
 use Rattle.file.specs.Given.{record_standing}
-use Rattle.file.proofs.Had.{known}
+use Rattle.file.proofs.Places.{values_end}
 use Rattle.file.proofs.house_file.HouseFile.record.Goals as goal
 
 pub returns-then-i-self : goal.returns-then-i-self
 returns-then-i-self c =
-    let past : records_count c.args.self.now.bytes.now ≤ c.args.i = omega (arith, (known c.args.self.now).records) in
-    rw (le-ltb _ _ past)
-
-pub overflow_add-self : goal.overflow_add-self
-overflow_add-self c =
-    let d = c.args.self.now.bytes.now in
-    let k = known c.args.self.now in
-    let below : c.args.i < records_count d = omega (arith, k.records) in
-    omega (arith, k.head, record_within d k.whole c.args.i below)
-
-pub overflow_add-self-2 : goal.overflow_add-self-2
-overflow_add-self-2 c =
-    let d = c.args.self.now.bytes.now in
-    let k = known c.args.self.now in
-    let below : c.args.i < records_count d = omega (arith, k.records) in
-    omega (arith, k.head, record_within d k.whole c.args.i below)
-
-pub record_of-requires : goal.record_of-requires
-record_of-requires c =
-    let d = c.args.self.now.bytes.now in
-    let k = known c.args.self.now in
-    let below : c.args.i < records_count d = omega (arith, k.records) in
-    omega (arith, k.head, record_within d k.whole c.args.i below)
-
-pub returns : goal.returns
-returns c =
-    let d = c.args.self.now.bytes.now in
+    let f = c.args.self.now in
+    let d = f.bytes.now in
     let i = c.args.i in
-    let k = known c.args.self.now in
-    let below : i < records_count d = omega (arith, k.records) in
-    ap Some (c.record_of.ensures ∙ ap (λ h. record_standing d (h + 4 + 24 * i)) k.head) ∙ rw (lt-ltb _ _ below)
+    let below : i < records_count d = omega (arith, c.if-i-self.true, f.counted) in
+    let head = values_end f.values.end.bytes.now d f.values.end.at f.values.count f.valued f.values.counted f.values.ended in
+    let at : c.ahead-place.result.at ≡ record_place d i = omega (arith, c.ahead-place.ensures.at, head) in
+    let bytes = c.ahead-place.ensures.bytes ∙ f.valued in
+    ap Some (c.record_of.ensures ∙ ap (λ b. record_standing b c.ahead-place.result.at) bytes ∙ ap (record_standing d) at) ∙ rw (lt-ltb _ _ below)

@@ -1,15 +1,9 @@
 -- The short bytes are those that were judged well-formed.
-use Rattle.std.proofs.Common.{◌≡◌, Ok, Err, sym, subst, rules, MatchResult}
-use Rattle.measures.specs.Rfc3629.{Utf8Octets}
+use Rattle.std.proofs.Common.{◌≡◌, Ok, Err, rules, MatchResult}
 use Rattle.kinds.specs.Names.{spelled, Unfit}
 use Rattle.kinds.specs.declared.refusal.Refusal.TheVariants.{IllFormedText}
 use Rattle.kinds.proofs.Makings.{text_made}
 use Rattle.kinds.proofs.text.ShortStr.new.Goals as goal
-
-pub invariant_of-result : goal.invariant_of-result
-invariant_of-result c =
-    let judged = c.well_formed-2.ensures.grammar.0 c.if-not-well_formed.false in
-    record { well = ∣ subst Utf8Octets (sym c.in_ok-short.ensures.content) judged ∣₁ }
 
 pub returns-in_err-short : goal.returns-in_err-short
 returns-in_err-short c =

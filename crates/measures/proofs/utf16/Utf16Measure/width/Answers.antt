@@ -16,4 +16,4 @@ returns c =
     let f = summed_all fours c.args.text.now c.loop-b.b-index c.loop-b-test.false in
     let parts = utf16_parts c.args.text.now in
     let e : c.loop-b.points + c.loop-b.pairs ≡ utf16_units c.args.text.now = omega arith in
-    subst (Says c.plus.result) e (c.plus.ensures _ _ c.of.ensures c.of-2.ensures)
+    subst (Says c.joined_width.result) e (c.joined_width.ensures _ _ c.width_of.ensures c.width_of-2.ensures)

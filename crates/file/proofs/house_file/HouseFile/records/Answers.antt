@@ -1,5 +1,0 @@
-use Rattle.file.proofs.Had.{known}
-use Rattle.file.proofs.house_file.HouseFile.records.Goals as goal
-
-pub returns : goal.returns
-returns c = (known c.args.self.now).records
