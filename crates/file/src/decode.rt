@@ -10,6 +10,7 @@ use kinds::document::OpId;
 use sources::record::{Action, Diff};
 use sources::table::TextPlace;
 
+// A number and no case: it is the one in the file itself, read into an `Option` at once.
 /// The number in a file that stands for no name and for no value.
 const NONE: u16 = 65535;
 

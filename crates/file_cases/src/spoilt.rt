@@ -10,7 +10,7 @@ use std::test::Fail;
 struct Spoilt {
     at: usize,
     byte: u8,
-    // The number of the refusal, as the format gives it.
+    // A number and no `Refusal`: the test compares the one that the format gives.
     number: u8,
     reported: usize,
     part: Part,

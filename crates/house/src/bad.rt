@@ -32,6 +32,8 @@ pub enum Part {
     End,
 }
 
+// Not `Option<Refusal>`: that a field is cut is a finding too, and `None` would read as nothing wrong.
+
 /// What is wrong with a field.
 #[derive(Clone, Copy, PartialEq, Eq, Debug)]
 pub enum Wrong {
