@@ -11,6 +11,7 @@ use denote.Struct.Record.{values_one}
 use Rattle.kinds.specs.declared.text.ShortStr.{ShortStr}
 use Rattle.kinds.specs.contracts.short.ShortBytes.{the_row}
 use Rattle.kinds.specs.contracts.text.ShortStr.{struct, the_propositions}
+use Rattle.kinds.specs.Order.{TotalOrder}
 use Rattle.kinds.specs.Names.{bytes_below, spelled, name_below}
 use Rattle.kinds.specs.ContentsLemmas.{same_bytes, held_test}
 
@@ -55,6 +56,14 @@ ranked (x ∷ xs) (y ∷ ys) = firsts_decide x y xs ys (nat_cmp x y) (slice_cmp 
 -- Texts of the same bytes are the same text.
 pub same_text : (a b : ShortStr) → spelled a ≡ spelled b → a ≡ b
 same_text a b e = values_one struct (the_propositions the_row.coded) a b (ap (λ s. (s, tt)) (same_bytes a.short b.short e))
+
+-- By their bytes texts are in a total order.
+pub texts_ordered : TotalOrder name_below
+texts_ordered = record {
+  irreflexive = λ a. not_below_itself (spelled a);
+  transitive = λ a b c. below_passes_on (spelled a) (spelled b) (spelled c);
+  total = λ a b h k. same_text a b (one_where_none_below (spelled a) (spelled b) h k);
+}
 
 of_names : (a b : ShortStr) (r : Ordering) → MatchOrdering r (name_below a b ≡ true) (spelled a ≡ spelled b) (name_below b a ≡ true) → MatchOrdering r (name_below a b ≡ true) (a ≡ b) (name_below b a ≡ true)
 of_names a b Less h = h

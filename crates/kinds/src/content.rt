@@ -1,9 +1,13 @@
 //! Short bytes made and read.
-ghost use Rattle.std.specs.Prelude.{◌≡◌, ◌<◌, length, MatchResult};
+ghost use Rattle.std.specs.Prelude.{◌≡◌, ◌<◌, ◌&&◌, length, nat_eq, Decides, MatchResult};
 ghost use Rattle.kinds.specs.Contents.{content};
 ghost use Rattle.kinds.specs.Making.{short_from};
 ghost use Rattle.kinds.specs.declared.refusal.Refusal.TheVariants.{TooLong};
 ghost use Rattle.std.specs.Result.{result_ok};
+ghost use Rattle.std.specs.Cmp.Rules.{comparing};
+ghost use Rattle.std.specs.Ordering.{on};
+ghost use Rattle.std.specs.Cmp.Lexicographic.{pointwise};
+ghost use Rattle.std.proofs.Common.{rules};
 
 use crate::padded::padded;
 use crate::refusal::Refusal;
@@ -31,4 +35,23 @@ impl ShortBytes {
         let all: &[u8] = &self.held;
         &all[..usize::from(self.len)]
     }
+}
+
+// By hand: a derived equality would promise neither that it decides nor that it compares the contents.
+impl PartialEq for ShortBytes {
+    ghost eq = { λ a b. pointwise nat_eq a.held b.held && nat_eq a.len b.len };
+
+    ghost laws = { Prim.search (comparing, rules) };
+
+    fn eq(&self, other: &ShortBytes) -> bool
+        ensures tests { result ≡ (pointwise nat_eq self.now.held other.now.held && nat_eq self.now.len other.now.len) }
+        ensures gives { result ≡ on content (pointwise nat_eq) self.now other.now }
+        ensures decides { Decides result (self.now ≡ other.now) }
+    {
+        self.held == other.held && self.len == other.len
+    }
+}
+
+impl Eq for ShortBytes {
+    ghost laws = { Prim.search (comparing, rules) };
 }

@@ -8,6 +8,7 @@ use crate::interfaces::{Id, Ordered};
 pub use crate::short::ShortBytes;
 pub use crate::text::ShortStr;
 pub use crate::value::ScalarValue;
+use std::cmp::Ordering;
 
 /// An operation of a document: the counter of its actor, and the actor.
 #[derive(Clone, Copy, PartialEq, Eq, PartialOrd, Ord, Debug)]
@@ -23,11 +24,20 @@ impl Ordered for OpId {
 }
 
 impl Id for OpId {
+    ghost below = { op_below };
+
     ghost actor = { λ id. id.actor };
 
     ghost counter = { λ id. id.counter };
 
     ghost previous = { op_previous };
+
+    ghost ordered = { Prim.search rules };
+
+    /// By counter, then by actor.
+    fn order(&self, other: &OpId) -> Ordering {
+        self.cmp(other)
+    }
 
     fn actor(&self) -> usize {
         self.actor as usize

@@ -1,5 +1,6 @@
 //! The grades of a detector, which are the values of its kind.
-ghost use Rattle.kinds.specs.Detector.{no_grade};
+ghost use Rattle.kinds.specs.Detector.{grade_equal, no_grade};
+ghost use Rattle.std.proofs.Common.{rules};
 
 use crate::interfaces::Value;
 
@@ -10,7 +11,15 @@ pub struct Grade {
 }
 
 impl Value for Grade {
+    ghost equal = { grade_equal };
+
     ghost null = { no_grade };
+
+    ghost equality = { Prim.search rules };
+
+    fn same(&self, other: &Grade) -> bool {
+        self == other
+    }
 
     fn null() -> Grade {
         Grade { level: 0 }

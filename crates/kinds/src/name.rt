@@ -1,5 +1,5 @@
 //! Short texts made, read and ordered: the names of the document kind.
-ghost use Rattle.std.specs.Prelude.{◌≡◌, MatchResult, refl};
+ghost use Rattle.std.specs.Prelude.{◌≡◌, nat_eq, Decides, MatchResult, refl};
 ghost use Rattle.kinds.specs.Making.{text_from};
 ghost use Rattle.kinds.specs.Names.{spelled, name_below, Unfit};
 ghost use Rattle.measures.specs.Rfc3629.{Utf8Octets};
@@ -7,9 +7,9 @@ ghost use Rattle.std.specs.Result.{result_ok};
 ghost use Rattle.std.specs.Cmp.{partial_order_from_agreeing_total};
 ghost use Rattle.std.specs.Cmp.Rules.{comparing};
 ghost use Rattle.std.specs.Ordering.{on, nat_cmp, as_partial_cmp};
-ghost use Rattle.std.specs.Cmp.Lexicographic.{slice_cmp};
+ghost use Rattle.std.specs.Cmp.Lexicographic.{slice_cmp, pointwise};
 ghost use Rattle.std.proofs.Common.{rules};
-ghost use Rattle.kinds.specs.Spellings.{not_below_itself, below_passes_on, one_where_none_below, same_text, ranked_names, ties_are_equal};
+ghost use Rattle.kinds.specs.Spellings.{texts_ordered, ranked_names, ties_are_equal};
 
 use crate::interfaces::{Name, Ordered};
 use crate::refusal::Refusal;
@@ -48,6 +48,25 @@ impl ShortStr {
     }
 }
 
+// By hand, as that of short bytes.
+impl PartialEq for ShortStr {
+    ghost eq = { λ a b. ⟦<ShortBytes as PartialEq>⟧.eq a.short b.short };
+
+    ghost laws = { Prim.search (comparing, rules) };
+
+    fn eq(&self, other: &ShortStr) -> bool
+        ensures tests { result ≡ ⟦<ShortBytes as PartialEq>⟧.eq self.now.short other.now.short }
+        ensures gives { result ≡ on spelled (pointwise nat_eq) self.now other.now }
+        ensures decides { Decides result (self.now ≡ other.now) }
+    {
+        self.short == other.short
+    }
+}
+
+impl Eq for ShortStr {
+    ghost laws = { Prim.search (comparing, rules) };
+}
+
 // The order by hand: a derived one is the same, but that zeros behind the bytes change nothing is more to show than this is to write.
 impl PartialOrd for ShortStr {
     ghost partial_cmp = { as_partial_cmp (on spelled (slice_cmp nat_cmp)) };
@@ -78,13 +97,17 @@ impl Ordered for ShortStr {
     ghost below = { name_below };
 
     ghost orders = { record {
-      ordered = record {
-        irreflexive = λ a. not_below_itself (spelled a);
-        transitive = λ a b c. below_passes_on (spelled a) (spelled b) (spelled c);
-        total = λ a b h k. same_text a b (one_where_none_below (spelled a) (spelled b) h k);
-      };
+      ordered = texts_ordered;
       answers = λ a b. ranked_names a b _ _ _ refl refl refl;
     } };
 }
 
-impl Name for ShortStr {}
+impl Name for ShortStr {
+    ghost below = { name_below };
+
+    ghost ordered = { texts_ordered };
+
+    fn order(&self, other: &ShortStr) -> Ordering {
+        self.cmp(other)
+    }
+}

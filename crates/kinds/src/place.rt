@@ -4,6 +4,7 @@ ghost use Rattle.kinds.specs.Ranks.{places_ranked};
 ghost use Rattle.std.proofs.Common.{rules};
 
 use crate::interfaces::{Id, Ordered};
+use std::cmp::Ordering;
 
 /// The actor of every place: a detector has no other.
 const ONLY_ACTOR: usize = 0;
@@ -21,11 +22,19 @@ impl Ordered for DetectorId {
 }
 
 impl Id for DetectorId {
+    ghost below = { place_below };
+
     ghost actor = { λ _. 0 };
 
     ghost counter = { λ id. id.number };
 
     ghost previous = { place_before };
+
+    ghost ordered = { Prim.search rules };
+
+    fn order(&self, other: &DetectorId) -> Ordering {
+        self.cmp(other)
+    }
 
     fn actor(&self) -> usize {
         ONLY_ACTOR

@@ -2,7 +2,7 @@
 ghost use Rattle.std.specs.Prelude.{◌≡◌, ℕ, ◌≤◌, length, slice_index};
 
 /// At most 32 bytes. Those not in use are 0, so equal content is an equal value.
-#[derive(Clone, Copy, PartialEq, Eq, Debug)]
+#[derive(Clone, Copy, Debug)]
 pub struct ShortBytes {
     // An array and its length, not a `Vec`: values are `Copy`, and the library takes no memory of its own.
     pub(crate) held: [u8; 32],

@@ -1,7 +1,7 @@
 //! Both kinds on examples.
 use crate::detector::{Channel, DetectorId, Grade};
 use crate::document::{FloatBits, OpId, ScalarValue, ShortBytes, ShortStr};
-use crate::interfaces::{Id, Value};
+use crate::interfaces::{Id, Name, Value};
 use crate::refusal::Refusal;
 use std::cmp::Ordering;
 use std::test::Fail;
@@ -23,6 +23,9 @@ fn operations(rt: HostRuntime) {
     assert_eq!(rt; first.cmp(&second), Ordering::Less);
     assert_eq!(rt; third.cmp(&second), Ordering::Greater);
     assert_eq!(rt; second.cmp(&second), Ordering::Equal);
+    assert_eq!(rt; first.order(&second), Ordering::Less);
+    assert_eq!(rt; third.order(&second), Ordering::Greater);
+    assert_eq!(rt; second.order(&second), Ordering::Equal);
     assert_eq!(rt;
         OpId {
             counter: 4,
@@ -48,14 +51,20 @@ fn operations(rt: HostRuntime) {
 fn detectors(rt: HostRuntime) {
     let place = DetectorId { number: 5 };
     assert_eq!(rt; place.cmp(&DetectorId { number: 6 }), Ordering::Less);
+    assert_eq!(rt; place.order(&DetectorId { number: 6 }), Ordering::Less);
     assert_eq!(rt; place.prev(), Some(DetectorId { number: 4 }));
     assert_eq!(rt; DetectorId { number: 0 }.prev(), None);
     assert_eq!(rt;
         Channel { number: 9 }.cmp(&Channel { number: 9 }),
         Ordering::Equal
     );
+    assert_eq!(rt;
+        Channel { number: 9 }.order(&Channel { number: 9 }),
+        Ordering::Equal
+    );
     assert!(rt; Grade { level: 0 }.is_null());
     assert!(rt; Grade { level: 1 } != <Grade as Value>::null());
+    assert!(rt; !Grade { level: 1 }.same(&<Grade as Value>::null()));
 }
 
 #[test]
@@ -74,6 +83,9 @@ fn names(rt: HostRuntime) -> Result<(), Fail> {
     assert_eq!(rt; a.cmp(&ab), Ordering::Less);
     assert_eq!(rt; ab.cmp(&b), Ordering::Less);
     assert_eq!(rt; ab.cmp(&ShortStr::new(b"ab")?), Ordering::Equal);
+    assert_eq!(rt; a.order(&ab), Ordering::Less);
+    assert_eq!(rt; ab.order(&b), Ordering::Less);
+    assert_eq!(rt; ab.order(&ShortStr::new(b"ab")?), Ordering::Equal);
     assert_eq!(rt; ab.as_str(), "ab");
     Ok(())
 }
@@ -99,6 +111,9 @@ fn values(rt: HostRuntime) {
     assert!(rt; zero == negative_zero);
     assert!(rt; nan == nan && nan != zero);
     assert!(rt; ScalarValue::Int(1) != ScalarValue::Counter(1));
+    assert!(rt; zero.same(&negative_zero));
+    assert!(rt; nan.same(&nan) && !nan.same(&zero));
+    assert!(rt; !ScalarValue::Int(1).same(&ScalarValue::Counter(1)));
     assert!(rt; ScalarValue::Null.is_null() && !ScalarValue::Boolean(false).is_null());
     assert_eq!(rt; ScalarValue::Null.kind_number(), 9);
 }

@@ -1,8 +1,10 @@
 //! The values of the document kind.
-ghost use Rattle.std.specs.Prelude.{◌≡◌, Decides};
+ghost use Rattle.std.specs.Prelude.{◌≡◌, Decides, refl};
+ghost use Rattle.std.proofs.Common.{sym, ◌∙◌};
+ghost use Rattle.kinds.specs.Equalities.{equal_decides};
 ghost use Rattle.kinds.specs.Kinds.{scalar_kind};
 ghost use Rattle.kinds.specs.Plain.{equal};
-ghost use Rattle.kinds.specs.Values.{kind_number};
+ghost use Rattle.kinds.specs.Values.{kind_number, unsigned_zero, value_equal};
 ghost use Rattle.kinds.specs.declared.value.ScalarValue.TheVariants.{Null};
 
 use crate::float::FloatBits;
@@ -55,7 +57,27 @@ impl ScalarValue {
 }
 
 impl Value for ScalarValue {
+    ghost equal = { value_equal };
+
     ghost null = { Null };
+
+    ghost equality = { record {
+      itself = λ x. (equal_decides x x).1 (refl, refl);
+      turned = λ x y h. let e = (equal_decides x y).0 h in (equal_decides y x).1 (sym e.0, sym e.1);
+      chained = λ x y z h k.
+          let e = (equal_decides x y).0 h in
+          let f = (equal_decides y z).0 k in
+          (equal_decides x z).1 (e.0 ∙ f.0, e.1 ∙ f.1);
+    } };
+
+    /// Whether the kinds and the contents are the same; the two zeros of a float are.
+    #[tactic(auto, using(crate::specs::Plain::equal_as_compared, crate::specs::Plain::equal_when_plain))]
+    fn same(&self, other: &ScalarValue) -> bool
+        ensures equal { result ≡ value_equal self.now other.now }
+        ensures plainly { Decides result (unsigned_zero self.now ≡ unsigned_zero other.now) }
+    {
+        self == other
+    }
 
     fn null() -> ScalarValue {
         Self::Null
@@ -63,7 +85,8 @@ impl Value for ScalarValue {
 
     /// Whether this is the case `Null`.
     fn is_null(&self) -> bool
-        ensures equal { result ≡ equal self.now Null }
+        ensures equal { result ≡ value_equal self.now Null }
+        ensures compared { result ≡ equal self.now Null }
         ensures only { Decides result (self.now ≡ Null) }
     {
         matches!(self, ScalarValue::Null)

@@ -3,8 +3,7 @@ use Rattle.std.proofs.Common.{◌≡◌, ℕ, ◌-◌, Bool, true, false, cond, 
 use Rattle.std.specs.List.{insert}
 use Rattle.std.proofs.lemmas.List.{take-append-drop, take_rest}
 use Rattle.std.proofs.lemmas.Bool.{cases_Bool, both_ways, not-true, not_from_false, false≢true}
-use Rattle.std.specs.Cmp.{IsEquivalence}
-use Rattle.kinds.specs.Order.{TotalOrder}
+use Rattle.kinds.specs.Order.{TotalOrder, Equality}
 use Rattle.marks.specs.Open.{alike}
 use Rattle.std.specs.Option.{option_or}
 use Rattle.marks.specs.Set.{under, given, SameValue, Differ}
@@ -18,17 +17,17 @@ altered equal (Some u) below v = false
 altered equal None None v = true
 altered equal None (Some w) v = not (equal w v)
 
-pub same_turned : {V : Type 0} {equal : V → V → Bool} → IsEquivalence equal → (x y : Option V) → SameValue equal x y → SameValue equal y x
+pub same_turned : {V : Type 0} {equal : V → V → Bool} → Equality equal → (x y : Option V) → SameValue equal x y → SameValue equal y x
 same_turned q None None h = tt
 same_turned q None (Some w) h = h
 same_turned q (Some v) None h = h
-same_turned q (Some v) (Some w) h = q.symm w v ∙ h
+same_turned q (Some v) (Some w) h = q.turned v w h
 
-same_itself : {V : Type 0} {equal : V → V → Bool} → IsEquivalence equal → (x : Option V) → SameValue equal x x
+same_itself : {V : Type 0} {equal : V → V → Bool} → Equality equal → (x : Option V) → SameValue equal x x
 same_itself q None = tt
-same_itself q (Some v) = q.refl v
+same_itself q (Some v) = q.itself v
 
-module _ {I N V : Type 0} {names : N → N → Bool} (order : TotalOrder names) {equal : V → V → Bool} (q : IsEquivalence equal) where
+module _ {I N V : Type 0} {names : N → N → Bool} (order : TotalOrder names) {equal : V → V → Bool} (q : Equality equal) where
   -- sets that do not differ are turned round
   pub differ_turned : (ms ms' : List (OpenMark I N V)) → Differ names equal ms ms' → Differ names equal ms' ms
   differ_turned ms ms' d = (d.0, λ h. d.1 (same_turned q (given names ms' d.0) (given names ms d.0) h))
@@ -85,7 +84,7 @@ module _ {I N V : Type 0} {names : N → N → Bool} (order : TotalOrder names) 
     pub decided : (b f : Option V) → given names back m.name ≡ b → given names front m.name ≡ f → Decides (altered equal b f m.value) (Differ names equal (front ++ back) (front ++ m ∷ back))
     decided (Some u) f eb ef = (
       (λ e. absurd (false≢true e)),
-      (λ d. absurd (everywhere (by_parts (Some u) f eb ef (q.refl u)) d)),
+      (λ d. absurd (everywhere (by_parts (Some u) f eb ef (q.itself u)) d)),
     )
     decided None None eb ef = (
       (λ _. (m.name, λ h. from_parts None None eb ef h)),

@@ -1,5 +1,5 @@
 -- What the laws of an order give. Assumes nothing.
-use Rattle.std.proofs.Common.{◌≡◌, Bool, true, false, not, Ordering, Less, Equal, Greater, sym, refl, ◌∙◌, subst, ⊎_elim}
+use Rattle.std.proofs.Common.{◌≡◌, Bool, true, false, cond, not, Ordering, Less, Equal, Greater, sym, refl, subst, ⊎_elim}
 use Rattle.std.proofs.lemmas.Bool.{cases_Bool, both_ways, and_parts, not-true}
 use Rattle.std.specs.Ordering.{MatchOrdering, is_eq}
 use Rattle.kinds.specs.Order.{TotalOrder, OrderedBy}
@@ -24,11 +24,27 @@ module _ {A : Type 0} {below : A → A → Bool} (order : TotalOrder below) wher
   pub not_alike : (x y : A) → (x ≡ y → ⊥) → alike below x y ≡ false
   not_alike x y ne = ⊎_elim (λ t. absurd (ne (alike_one x y t))) (λ f. f) (cases_Bool (alike below x y))
 
--- where an equality holds just where a comparison ties, it holds of two of which neither is below the other
-pub same_alike : {A : Type 0} {cmp : A → A → Ordering} {eq below : A → A → Bool} → OrderedBy cmp below → ((x y : A) → eq x y ≡ is_eq (cmp x y)) → (x y : A) → eq x y ≡ alike below x y
-same_alike {A} {cmp} {eq} {below} orders ties x y = ties x y ∙ by_answer (cmp x y) (orders.answers x y)
-  where
-    by_answer : (r : Ordering) → MatchOrdering r (below x y ≡ true) (x ≡ y) (below y x ≡ true) → is_eq r ≡ alike below x y
-    by_answer Less h = rw h refl
-    by_answer Equal h = sym (one_alike orders.ordered x y h)
-    by_answer Greater h = rw (asym orders.ordered y x h, h) refl
+  -- an answer by the order says `Equal` where neither is below the other
+  pub ties_alike : (x y : A) (r : Ordering) → MatchOrdering r (below x y ≡ true) (x ≡ y) (below y x ≡ true) → is_eq r ≡ alike below x y
+  ties_alike x y Less h = rw h refl
+  ties_alike x y Equal h = sym (one_alike x y h)
+  ties_alike x y Greater h = rw (asym y x h, h) refl
+
+-- what an order answers of two
+abbrev pub ranking : {A : Type 0} → (A → A → Bool) → A → A → Ordering
+ranking below x y = cond (below x y) Less (cond (below y x) Greater Equal)
+
+module _ {A : Type 0} {below : A → A → Bool} (order : TotalOrder below) where
+  by_tests : (x y : A) (less more : Bool) → below x y ≡ less → below y x ≡ more → MatchOrdering (cond less Less (cond more Greater Equal)) (below x y ≡ true) (x ≡ y) (below y x ≡ true)
+  by_tests x y true more e f = e
+  by_tests x y false true e f = f
+  by_tests x y false false e f = order.total x y e f
+
+  pub ranking_orders : OrderedBy (ranking below) below
+  ranking_orders = record { ordered = order; answers = λ x y. by_tests x y (below x y) (below y x) refl refl }
+
+  -- and nothing else is answered by it
+  pub one_ranking : (x y : A) (r : Ordering) → MatchOrdering r (below x y ≡ true) (x ≡ y) (below y x ≡ true) → r ≡ ranking below x y
+  one_ranking x y Less h = rw h refl
+  one_ranking x y Equal h = subst (λ (z : A). Equal ≡ ranking below x z) h (rw (order.irreflexive x) refl)
+  one_ranking x y Greater h = rw (asym order y x h, h) refl

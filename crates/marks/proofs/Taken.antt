@@ -6,8 +6,7 @@ use Rattle.std.proofs.lemmas.Bool.{false≢true}
 use Rattle.places.specs.Changes.{Inserts, Removes}
 use Rattle.places.specs.declared.places.NoPlace.{NoPlace}
 use Rattle.places.specs.declared.places.NoPlace.TheVariants.{Full, Outside}
-use Rattle.std.specs.Cmp.{IsEquivalence}
-use Rattle.kinds.specs.Order.{TotalOrder}
+use Rattle.kinds.specs.Order.{TotalOrder, Equality}
 use Rattle.kinds.specs.declared.refusal.Refusal.TheVariants.{NoOpenPlace}
 use Rattle.marks.specs.Open.{Ascending, begun, ended, Opens, Closes, Found}
 use Rattle.marks.specs.Set.{Differ}
@@ -22,7 +21,7 @@ put_back [] k x lt e = absurd (omega arith)
 put_back (y ∷ ys) zero x lt e = ap (λ z. z ∷ ys) e
 put_back (y ∷ ys) (suc k) x lt e = ap (λ l. y ∷ l) (put_back ys k x (omega arith) e)
 
-module _ {I N V : Type 0} {ids : I → I → Bool} (id-order : TotalOrder ids) {names : N → N → Bool} (order : TotalOrder names) {equal : V → V → Bool} (q : IsEquivalence equal) where
+module _ {I N V : Type 0} {ids : I → I → Bool} (id-order : TotalOrder ids) {names : N → N → Bool} (order : TotalOrder names) {equal : V → V → Bool} (q : Equality equal) where
   unchanged : (ms : List (OpenMark I N V)) → Decides false (Differ names equal ms ms)
   unchanged ms = ((λ e. absurd (false≢true e)), (λ d. absurd (differ_itself order q ms d)))
 

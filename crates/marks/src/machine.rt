@@ -8,13 +8,13 @@ ghost use Rattle.marks.specs.Set.{Differ};
 use crate::mark::{Entry, OpenMark};
 use crate::search::find;
 use crate::set::{MarkSet, last_value};
-use kinds::interfaces::{Id, Name, Ordered, Value};
+use kinds::interfaces::{Id, Name, Value};
 use kinds::refusal::Refusal;
 use places::places::Places;
 
 /// The marks that are open at a point of a side, in the order of their ids.
 #[derive(Drop)]
-pub struct MarkStateMachine<'a, I: Ordered, N, V> {
+pub struct MarkStateMachine<'a, I: Id, N, V> {
     state: Places<'a, OpenMark<I, N, V>>,
     ghost in_order: { Ascending I.below (held state) } by { ascending_once I.below (held state) },
 }
@@ -81,17 +81,17 @@ impl<'a, I: Id, N: Name, V: Value> MarkStateMachine<'a, I, N, V> {
     /// Whether the set differs by a mark at the place `at`: none above has its name, and the nearest below has not its value.
     fn altered_by(&self, at: usize, mark: &OpenMark<I, N, V>) -> bool
         requires within { at ≤ length (opened self.now) }
-        ensures { Decides result (Differ N.below V.eq (opened self.now) (insert (opened self.now) at mark.now)) }
+        ensures { Decides result (Differ N.below V.equal (opened self.now) (insert (opened self.now) at mark.now)) }
     {
         let marks = self.state.all();
         last_value(&marks[at..], mark.name).is_none()
-            && last_value(&marks[..at], mark.name).is_none_or(|below| below != mark.value)
+            && last_value(&marks[..at], mark.name).is_none_or(|below| !below.same(&mark.value))
     }
 
     /// Opens a mark, and says whether the set changed; an id that is open keeps its first data.
     pub fn mark_begin(&mut self, id: I, name: N, value: V) -> Result<bool, Refusal>
         ensures places { places self.new ≡ places self.old }
-        ensures begins { Begins I.below N.below V.eq (places self.old) (record { id = id; name = name; value = value }) (opened self.old) result (opened self.new) }
+        ensures begins { Begins I.below N.below V.equal (places self.old) (record { id = id; name = name; value = value }) (opened self.old) result (opened self.new) }
     {
         let Err(at) = self.place_of(id) else {
             return Ok(false);
@@ -107,7 +107,7 @@ impl<'a, I: Id, N: Name, V: Value> MarkStateMachine<'a, I, N, V> {
     /// Closes the mark of the predecessor of `id`, and says whether the set changed.
     pub fn mark_end(&mut self, id: I) -> Result<bool, Refusal>
         ensures places { places self.new ≡ places self.old }
-        ensures ends { Ends I.below N.below V.eq (I.Id.previous id) (opened self.old) result (opened self.new) }
+        ensures ends { Ends I.below N.below V.equal (I.Id.previous id) (opened self.old) result (opened self.new) }
     {
         let begun = id.prev().ok_or(Refusal::NoPredecessor)?;
         let Ok(at) = self.place_of(begun) else {

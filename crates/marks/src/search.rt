@@ -15,5 +15,5 @@ pub fn find<I: Id, N: Name, V: Value>(
     ensures within { IsSearchInRange result (length marks.now) }
     ensures found { Ascending I.below marks.now → Found I.below marks.now target result }
 {
-    marks.binary_search_by_key(&target, |mark| mark.id)
+    marks.binary_search_by(|mark| mark.id.order(&target))
 }

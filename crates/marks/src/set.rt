@@ -17,7 +17,7 @@ pub(crate) fn last_value<I: Id, N: Name, V: Value>(
 {
     marks
         .iter()
-        .rfind(|mark| mark.name == name)
+        .rfind(|mark| mark.name.order(&name).is_eq())
         .map(|mark| mark.value)
 }
 
@@ -25,7 +25,8 @@ pub(crate) fn last_value<I: Id, N: Name, V: Value>(
 fn improves<N: Name, V: Value>(last: Option<N>, best: Option<Entry<N, V>>, name: &N) -> bool
     ensures { result ≡ (past N.below last name.now && ahead N.below best name.now) }
 {
-    last.is_none_or(|passed| passed < *name) && best.is_none_or(|entry| *name < entry.name)
+    last.is_none_or(|passed| passed.order(name).is_lt())
+        && best.is_none_or(|entry| name.order(&entry.name).is_lt())
 }
 
 /// The first entry of the set past a name.

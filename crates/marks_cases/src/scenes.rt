@@ -23,7 +23,7 @@ pub(crate) fn has<I: Id, N: Name, V: Value>(
     name: N,
     value: V,
 ) -> bool {
-    side.value_of(name) == Some(value)
+    side.value_of(name).is_some_and(|found| found.same(&value))
 }
 
 /// Whether entry `k` has the name and the value.
@@ -33,8 +33,7 @@ fn lists<I: Id, N: Name, V: Value>(
     name: N,
     value: V,
 ) -> bool {
-    side.entry(k)
-        .is_some_and(|entry| entry.name == name && entry.value == value)
+    side.entry(k).is_some_and(|entry| entry.name.order(&name).is_eq() && entry.value.same(&value))
 }
 
 /// Whether the first entry past `last` has the name.
@@ -45,7 +44,7 @@ fn leads_to<I: Id, N: Name, V: Value>(
 ) -> bool {
     side.current()
         .entry_past(last)
-        .is_some_and(|entry| entry.name == name)
+        .is_some_and(|entry| entry.name.order(&name).is_eq())
 }
 
 /// The greater of two open ids gives the value, and the older one again once the greater has ended.

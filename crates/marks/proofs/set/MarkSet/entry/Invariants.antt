@@ -4,4 +4,4 @@ use Rattle.marks.specs.Set.{entries}
 use Rattle.marks.proofs.set.MarkSet.entry.Given as goal
 
 abbrev pub invariant-loop : goal.invariant-loop
-invariant-loop g l = slice_get (entries g.N.Ordered.below l.self.marks.now) l.counter ≡ Some l.found
+invariant-loop g l = slice_get (entries g.N.Name.below l.self.marks.now) l.counter ≡ Some l.found
