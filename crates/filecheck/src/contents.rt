@@ -1,12 +1,10 @@
 //! What a good file holds, as it is printed.
-use anyhow::Result;
 use file::house_file::HouseFile;
 use kinds::kind::ValueKind;
 use measures::code_points::CodePoints;
 use measures::judge::well_formed;
 use measures::measure::Measure;
 use sources::record::{Action, Diff};
-use std::collections::BTreeMap;
 use std::{fmt, io};
 
 /// How many records have each tag.
@@ -25,6 +23,11 @@ impl ByTag {
             Diff::Del => &mut self.del,
         };
         *column = column.saturating_add(1);
+    }
+
+    fn is_empty(self) -> bool {
+        let ByTag { same, add, del } = self;
+        same == 0 && add == 0 && del == 0
     }
 }
 
@@ -66,41 +69,49 @@ impl<'a> Contents<'a> {
         print_rest(self.rt, count)
     }
 
-    /// How many values there are of each kind.
-    fn by_kind(&self) -> Result<BTreeMap<ValueKind, u32>> {
-        let mut numbers = BTreeMap::new(self.rt.alloc());
+    // Arrays and no maps: once the input is read, nothing takes memory, so no good file is printed in part for want of it.
+    /// How many values there are of each kind, in the order of the kinds' numbers.
+    fn by_kind(&self) -> [u32; 10] {
+        let mut numbers = [0u32; 10];
         for value in (0..referred(self.file.values())).filter_map(|i| self.file.value(i)) {
-            let number: &mut u32 = numbers.entry(value.kind())?.or_insert(0);
-            *number = number.saturating_add(1);
+            if let Some(number) = numbers.get_mut(usize::from(value.kind_number())) {
+                *number = number.saturating_add(1);
+            }
         }
-        Ok(numbers)
+        numbers
     }
 
-    fn print_values(&self) -> Result<()> {
+    fn print_values(&self) -> io::Result<()> {
         let count = self.file.values();
         println!(self.rt; "{count} values")?;
-        for (kind, number) in &self.by_kind()? {
-            println!(self.rt; "  {number} {kind}")?;
+        let kinds = (0..10u8).filter_map(|number| ValueKind::try_from(number).ok());
+        for (kind, number) in kinds.zip(self.by_kind()) {
+            if number > 0 {
+                println!(self.rt; "  {number} {kind}")?;
+            }
         }
-        print_rest(self.rt, count)?;
-        Ok(())
+        print_rest(self.rt, count)
     }
 
-    /// How many records of each action have each tag.
-    fn by_action(&self) -> Result<BTreeMap<Action, ByTag>> {
-        let mut numbers = BTreeMap::new(self.rt.alloc());
+    /// How many records of each action have each tag, in the order of the actions' numbers.
+    fn by_action(&self) -> [ByTag; 8] {
+        let mut numbers = [ByTag::default(); 8];
         for record in (0..self.file.records()).filter_map(|i| self.file.record(i)) {
-            let by_tag: &mut ByTag = numbers.entry(record.action)?.or_default();
-            by_tag.count(record.tag);
+            if let Some(by_tag) = numbers.get_mut(usize::from(record.action.number())) {
+                by_tag.count(record.tag);
+            }
         }
-        Ok(numbers)
+        numbers
     }
 
-    fn print_records(&self) -> Result<()> {
+    fn print_records(&self) -> io::Result<()> {
         let count = self.file.records();
         println!(self.rt; "{count} records")?;
-        for (action, by_tag) in &self.by_action()? {
-            println!(self.rt; "  {action}: {by_tag}")?;
+        let actions = (0..8u8).filter_map(|number| Action::try_from(number).ok());
+        for (action, by_tag) in actions.zip(self.by_action()) {
+            if !by_tag.is_empty() {
+                println!(self.rt; "  {action}: {by_tag}")?;
+            }
         }
         Ok(())
     }
@@ -118,11 +129,10 @@ impl<'a> Contents<'a> {
     }
 
     /// Prints the names, the values by kind, the records by action and tag, and the size of the text.
-    pub(crate) fn print(&self) -> Result<()> {
+    pub(crate) fn print(&self) -> io::Result<()> {
         self.print_names()?;
         self.print_values()?;
         self.print_records()?;
-        self.print_text()?;
-        Ok(())
+        self.print_text()
     }
 }
