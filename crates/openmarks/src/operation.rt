@@ -1,5 +1,5 @@
 //! Mark operations as they are written, a line each.
-use crate::words::{decimal, looks_like_integer, parts_words};
+use crate::words::{Words, decimal, looks_like_integer};
 use kinds::document::{OpId, ScalarValue, ShortStr};
 use kinds::refusal::Refusal;
 use measures::strings::text_from;
@@ -77,14 +77,12 @@ fn read_value(word: &[u8]) -> Result<ScalarValue, Problem> {
 
 /// The operation that a line spells; the library judges its name and text.
 pub(crate) fn read_operation(line: &[u8]) -> Result<Operation, Problem> {
-    let mut words = line
-        .split(|b| parts_words(*b))
-        .filter(|word| !word.is_empty());
-    let operation = match words.next().ok_or(Mistake::Empty)? {
+    let mut words = Words::new(line);
+    let operation = match words.next_word().ok_or(Mistake::Empty)? {
         b"begin" => {
-            let id = read_id(words.next().ok_or(Mistake::NoId)?)?;
-            let name = words.next().ok_or(Mistake::NoName)?;
-            let value = words.next().ok_or(Mistake::NoValue)?;
+            let id = read_id(words.next_word().ok_or(Mistake::NoId)?)?;
+            let name = words.next_word().ok_or(Mistake::NoName)?;
+            let value = words.next_word().ok_or(Mistake::NoValue)?;
             Operation::Begin {
                 id,
                 name: ShortStr::new(name)?,
@@ -92,11 +90,11 @@ pub(crate) fn read_operation(line: &[u8]) -> Result<Operation, Problem> {
             }
         }
         b"end" => Operation::End {
-            id: read_id(words.next().ok_or(Mistake::NoId)?)?,
+            id: read_id(words.next_word().ok_or(Mistake::NoId)?)?,
         },
         _ => return Err(Problem::Mistaken(Mistake::UnknownWord)),
     };
-    match words.next() {
+    match words.next_word() {
         Some(_) => Err(Problem::Mistaken(Mistake::MoreWords)),
         None => Ok(operation),
     }
