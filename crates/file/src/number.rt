@@ -11,6 +11,11 @@ pub(crate) trait Number: Copy {
 
     ghost standing: { List ℕ → ℕ → Self };
 
+    /// The number at a place from which its bytes are all there.
+    fn found(bytes: &[u8], at: usize) -> Self
+        requires { at + size ≤ length bytes.now }
+        ensures { result ≡ standing bytes.now at };
+
     /// The number at a place, if its bytes are all there.
     fn read(bytes: &[u8], at: usize) -> Option<Self>
         ensures { MatchOption result (length bytes.now < at + size) (λ n. (at + size ≤ length bytes.now) × (n ≡ standing bytes.now at)) };
@@ -29,16 +34,25 @@ impl Number for u8 {
 
     ghost standing = { byte };
 
+    fn found(bytes: &[u8], at: usize) -> u8 {
+        bytes[at]
+    }
+
     fn read(bytes: &[u8], at: usize) -> Option<u8> {
         bytes.get(at).copied()
     }
 }
 
-// The three below differ in a type and a size: `from_le_bytes` belongs to each type, and what they share is `chunk`.
+// The three below differ in a type and a size: `from_le_bytes` belongs to each type, and what `read` shares is `chunk`. `found` goes by index: where
+// the bytes are known to be there, nothing is tested as it runs.
 impl Number for u16 {
     ghost size = { 2 };
 
     ghost standing = { le16 };
+
+    fn found(bytes: &[u8], at: usize) -> u16 {
+        u16::from_le_bytes([bytes[at], bytes[at + 1]])
+    }
 
     #[tactic(auto, using(crate::proofs::Chunks::chunk_le16))]
     fn read(bytes: &[u8], at: usize) -> Option<u16> {
@@ -51,6 +65,10 @@ impl Number for u32 {
 
     ghost standing = { le32 };
 
+    fn found(bytes: &[u8], at: usize) -> u32 {
+        u32::from_le_bytes([bytes[at], bytes[at + 1], bytes[at + 2], bytes[at + 3]])
+    }
+
     #[tactic(auto, using(crate::proofs::Chunks::chunk_le32))]
     fn read(bytes: &[u8], at: usize) -> Option<u32> {
         Some(u32::from_le_bytes(*chunk(bytes, at)?))
@@ -61,6 +79,12 @@ impl Number for u64 {
     ghost size = { 8 };
 
     ghost standing = { le64 };
+
+    fn found(bytes: &[u8], at: usize) -> u64 {
+        let [b0, b1, b2, b3] = [bytes[at], bytes[at + 1], bytes[at + 2], bytes[at + 3]];
+        let [b4, b5, b6, b7] = [bytes[at + 4], bytes[at + 5], bytes[at + 6], bytes[at + 7]];
+        u64::from_le_bytes([b0, b1, b2, b3, b4, b5, b6, b7])
+    }
 
     #[tactic(auto, using(crate::proofs::Chunks::chunk_le64))]
     fn read(bytes: &[u8], at: usize) -> Option<u64> {

@@ -54,7 +54,7 @@ impl<'a> Place<'a> {
         requires { self.now.at + ahead + T.size ≤ length self.now.bytes.now }
         ensures { result ≡ T.standing self.now.bytes.now (self.now.at + ahead) }
     {
-        T::read(self.bytes, self.at + usize::from(ahead)).unwrap()
+        T::found(self.bytes, self.at + usize::from(ahead))
     }
 
     /// The `len` bytes that stand some bytes ahead, where the file reaches their end.

@@ -25,7 +25,8 @@ impl<'a> HouseFile<'a> {
     pub fn empty() -> HouseFile<'a>
         ensures { file_bytes result ≡ replicate 16 0 }
     {
-        check(&EMPTY).unwrap()
+        let file = check(&EMPTY).unwrap();
+        file
     }
 
     /// Makes this the file of these bytes; where they are no good file, answers why and leaves it as it was.
@@ -33,7 +34,8 @@ impl<'a> HouseFile<'a> {
         ensures judged { Judged bytes.now (fields bytes.now) result (λ _. (file_bytes self.new ≡ bytes.now) × Holds bytes.now) }
         ensures kept { Kept result self.old self.new }
     {
-        *self = check(bytes)?;
+        let file = check(bytes)?;
+        *self = file;
         Ok(())
     }
 

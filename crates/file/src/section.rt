@@ -41,8 +41,8 @@ impl<'a, T: Item> Section<'a, T> {
             return self.end.to(self.index.near(i));
         }
         let mut place = self.end.to(self.index.far(i));
-        // A `for` and not a fold, which would carry the same place.
-        for _ in i / 256 * 256..i {
+        // A `for` and not a fold, which would carry the same place; by a count from 0, of which the compiler takes several steps at once.
+        for _ in 0..i % 256 {
             place = T::behind(&place);
         }
         place
