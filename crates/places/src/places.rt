@@ -94,7 +94,10 @@ impl<'a, T: Copy> Places<'a, T> {
         ensures size { size self.new ≡ size self.old }
         ensures lent { self.new.slots.ghost_name ≡ self.old.slots.ghost_name }
     {
-        let item = *self.all().get(at)?;
+        if at >= self.used {
+            return None;
+        }
+        let item = self.slots[at];
         self.slots.copy_within(at + 1..self.used, at);
         self.used -= 1;
         Some(item)

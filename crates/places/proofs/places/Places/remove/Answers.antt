@@ -1,5 +1,5 @@
-use Rattle.std.proofs.Common.{◌<◌, arith}
-use Rattle.std.proofs.lemmas.List.{length-take-le}
+use Rattle.std.proofs.Common.{◌<◌, slice_index_or, sym, ap, ◌∙◌, arith}
+use Rattle.std.proofs.lemmas.List.{length-take-le, get_or-take}
 use Rattle.places.proofs.Moves.{removed}
 use Rattle.places.proofs.places.Places.remove.Goals as goal
 
@@ -7,6 +7,6 @@ pub returns-clause-removes : goal.returns-clause-removes
 returns-clause-removes g c =
     let old = c.args.self.now.slots.now in
     let used = c.args.self.now.used in
-    let stood = simp c.all.ensures at c.in_ok-item.ensures.lookup.3 in
-    let inside : c.args.at < used = omega (arith, stood.0, length-take-le used old (omega arith)) in
-    (stood.0, stood.1 _, rw c.copy_within.ensures.after (removed old c.args.at used inside (omega arith)))
+    let inside : c.args.at < used = omega (arith, c.if-at-self.false) in
+    let item = ap (λ d. slice_index_or old c.args.at d) c.index-self-at.is ∙ sym (get_or-take used old c.args.at _ inside) in
+    (omega (arith, inside, length-take-le used old (omega arith)), item, rw c.copy_within.ensures.after (removed old c.args.at used inside (omega arith)))
