@@ -25,6 +25,7 @@ impl<'a> HouseFile<'a> {
     pub fn empty() -> HouseFile<'a>
         ensures { file_bytes result ≡ replicate 16 0 }
     {
+        // Named, so that its edit can put another good file in its place and is refused for what it holds.
         let file = check(&EMPTY).unwrap();
         file
     }

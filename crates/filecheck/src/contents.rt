@@ -84,7 +84,7 @@ impl<'a> Contents<'a> {
     fn print_values(&self) -> io::Result<()> {
         let count = self.file.values();
         println!(self.rt; "{count} values")?;
-        let kinds = (0..10u8).filter_map(|number| ValueKind::try_from(number).ok());
+        let kinds = (0..u8::MAX).filter_map(|number| ValueKind::try_from(number).ok());
         for (kind, number) in kinds.zip(self.by_kind()) {
             if number > 0 {
                 println!(self.rt; "  {number} {kind}")?;
@@ -107,7 +107,7 @@ impl<'a> Contents<'a> {
     fn print_records(&self) -> io::Result<()> {
         let count = self.file.records();
         println!(self.rt; "{count} records")?;
-        let actions = (0..8u8).filter_map(|number| Action::try_from(number).ok());
+        let actions = (0..u8::MAX).filter_map(|number| Action::try_from(number).ok());
         for (action, by_tag) in actions.zip(self.by_action()) {
             if !by_tag.is_empty() {
                 println!(self.rt; "  {action}: {by_tag}")?;

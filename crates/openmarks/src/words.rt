@@ -51,7 +51,7 @@ fn with_digit(number: u32, b: u8) -> Option<u32> {
     number.checked_mul(10)?.checked_add(digit)
 }
 
-// In one pass and no `parse`, which wants text: a number that does not fit is known at its eleventh digit.
+// In one pass and no `parse`, which wants text: it ends at the first byte that is no digit or takes the number past 32 bits.
 /// The number that decimal digits spell, if it fits 32 bits.
 pub(crate) fn decimal(word: &[u8]) -> Option<u32> {
     if word.is_empty() {
